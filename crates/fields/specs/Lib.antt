@@ -1,0 +1,2 @@
+-- What the byte readers mean.
+pub mod Number

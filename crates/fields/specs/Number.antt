@@ -1,0 +1,35 @@
+-- A number in a run of bytes, over its width and its byte order.
+use Prim.Native.Nat.{ℕ, zero, suc, _+_, _-_, _*_, _^_}
+use mathlib.Core.Bool.{cond}
+use mathlib.Core.List.{List, [], _∷_, reverse}
+use lib.ListN.{length, take, drop}
+use lib.Dec.{leb, ltb}
+use lib.IntN.{ℤ, pos, subℕ}
+
+-- Which byte comes first: the least significant one, or the most significant one.
+pub data Order : Type 0 where
+  little big : Order
+
+-- The number whose digits to the base 256 these are, the least significant first.
+abbrev pub value : List ℕ → ℕ
+value [] = 0
+value (b ∷ bs) = b + 256 * value bs
+
+-- The bytes in the order in which `value` takes them.
+unfoldable pub leastFirst : Order → List ℕ → List ℕ
+leastFirst little bs = bs
+leastFirst big bs = reverse bs
+
+-- The number in the k bytes of s from off on.
+unfoldable pub number : Order → ℕ → List ℕ → ℕ → ℕ
+unfolding leastFirst
+number o k s off = value (leastFirst o (take k (drop off s)))
+
+-- Two's complement at w bits: from 2 ^ (w - 1) on, n stands for n - 2 ^ w.
+unfoldable pub signed : ℕ → ℕ → ℤ
+signed w n = cond (ltb n (2 ^ (w - 1))) (pos n) (subℕ n (2 ^ w))
+
+-- What a reader of k bytes at off answers: the number, as `told` has it, or `missing` where the k bytes do not lie inside s.
+unfoldable pub field : {A : Type 0} → (ℕ → A) → A → Order → ℕ → List ℕ → ℕ → A
+unfolding number
+field told missing o k s off = cond (leb (off + k) (length s)) (told (number o k s off)) missing
