@@ -1,0 +1,104 @@
+// The numbers a call may give back, by name.
+
+ghost use mathlib.Core.Path.{_≡_};
+ghost use Rattle.points.specs.Answer.{refusalNumber, refusalPoints, numberOf, pointsOf, framesOf};
+
+// Why a call refuses. The order is that of the numbers, 1 to 13, and of the checks.
+pub enum Refusal {
+    TooLong,
+    BadSettings,
+    TooShort,
+    WrongMark,
+    WrongCode,
+    HeaderTooShort,
+    DevicesPastEnd,
+    NotWholeRecords,
+    NoPayload,
+    // Carries the points that there should be room for.
+    NoRoom(usize),
+    NotPlaceable,
+    BadPulseLength,
+    OutsideWindow,
+}
+
+pub enum Answer {
+    Read { points: usize, frames: usize },
+    Refused(Refusal),
+}
+
+impl Refusal {
+    pub fn number(self) -> u8
+        ensures { λ r. ⌜ r ≡ refusalNumber self ⌝ }
+    {
+        match self {
+            Refusal::TooLong => 1,
+            Refusal::BadSettings => 2,
+            Refusal::TooShort => 3,
+            Refusal::WrongMark => 4,
+            Refusal::WrongCode => 5,
+            Refusal::HeaderTooShort => 6,
+            Refusal::DevicesPastEnd => 7,
+            Refusal::NotWholeRecords => 8,
+            Refusal::NoPayload => 9,
+            Refusal::NoRoom(_) => 10,
+            Refusal::NotPlaceable => 11,
+            Refusal::BadPulseLength => 12,
+            Refusal::OutsideWindow => 13,
+        }
+    }
+
+    // The points that there should be room for. Other refusals tell none.
+    pub fn points_needed(self) -> usize
+        ensures { λ r. ⌜ r ≡ refusalPoints self ⌝ }
+    {
+        match self {
+            Refusal::TooLong => 0,
+            Refusal::BadSettings => 0,
+            Refusal::TooShort => 0,
+            Refusal::WrongMark => 0,
+            Refusal::WrongCode => 0,
+            Refusal::HeaderTooShort => 0,
+            Refusal::DevicesPastEnd => 0,
+            Refusal::NotWholeRecords => 0,
+            Refusal::NoPayload => 0,
+            Refusal::NoRoom(needed) => needed,
+            Refusal::NotPlaceable => 0,
+            Refusal::BadPulseLength => 0,
+            Refusal::OutsideWindow => 0,
+        }
+    }
+}
+
+impl Answer {
+    // 0 when read, else the refusal's number.
+    pub fn number(self) -> u8
+        ensures { λ r. ⌜ r ≡ numberOf self ⌝ }
+    {
+        match self {
+            Answer::Read {
+                points: _,
+                frames: _,
+            } => 0,
+            Answer::Refused(refusal) => refusal.number(),
+        }
+    }
+
+    // The points told, or those needed where there is no room.
+    pub fn points(self) -> usize
+        ensures { λ r. ⌜ r ≡ pointsOf self ⌝ }
+    {
+        match self {
+            Answer::Read { points, frames: _ } => points,
+            Answer::Refused(refusal) => refusal.points_needed(),
+        }
+    }
+
+    pub fn frames(self) -> usize
+        ensures { λ r. ⌜ r ≡ framesOf self ⌝ }
+    {
+        match self {
+            Answer::Read { points: _, frames } => frames,
+            Answer::Refused(_) => 0,
+        }
+    }
+}
