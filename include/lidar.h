@@ -1,0 +1,73 @@
+/* The lidar readers, for C and C++. Link liblidar.a, which `rt staticlib lidar` writes. */
+#ifndef LIDAR_H
+#define LIDAR_H
+
+#include <stddef.h>
+#include <stdint.h>
+
+#ifdef __cplusplus
+extern "C" {
+#endif
+
+/* What a call gives back: 0 when the data was read, else why it was refused.
+   The checks run in this order, and the first that applies gives the number.
+   A check that concerns another file or call is skipped. */
+enum lidar_number {
+    LIDAR_READ = 0,
+    LIDAR_DATA_TOO_LONG = 1,      /* the data is longer than 2147483647 bytes */
+    LIDAR_BAD_SETTINGS = 2,       /* Ouster: beams not 16, 32, 64 or 128, columns outside 1 to 64,
+                                     or fewer elevations than beams */
+    LIDAR_DATA_TOO_SHORT = 3,     /* below 24 bytes (capture, LVX) or 28 (LVX2) */
+    LIDAR_WRONG_MARK = 4,         /* the opening bytes are not those of the format */
+    LIDAR_WRONG_CODE = 5,         /* LVX: the code at offset 20 is not 0xAC0EA767 */
+    LIDAR_HEADER_TOO_SHORT = 6,   /* LVX: below 29 bytes */
+    LIDAR_DEVICES_PAST_DATA = 7,  /* Livox: the device section ends past the data */
+    LIDAR_NOT_WHOLE_RECORDS = 8,  /* KITTI: the length is not a multiple of 16 bytes */
+    LIDAR_NO_PAYLOAD = 9,         /* capture: no payload on the reader's port */
+    LIDAR_TOO_LITTLE_ROOM = 10,   /* a slice is too short; *points tells the points needed */
+    LIDAR_NO_SUCH_POINT = 11,     /* placing: not a whole-millimetre Livox point, or no such rank */
+    LIDAR_BAD_PULSE_LENGTH = 12,  /* placing: outside 1 to 1000 micrometres */
+    LIDAR_PLACE_TOO_FAR = 13      /* placing: beyond 16000000 micrometres either way */
+};
+
+/* The kind of a point, which says what its three numbers are. */
+enum lidar_kind {
+    LIDAR_CARTESIAN = 1,  /* x, y, z in metres */
+    LIDAR_POLAR = 2       /* range in metres, elevation, azimuth */
+};
+
+/* For every call below:
+
+   data, data_len         the file's bytes; they are only read
+   numbers, numbers_len   takes three floats a point, from the start; the length counts floats
+   bits, bits_len         the same, with each float as its 32-bit pattern; the length counts patterns
+   kinds, kinds_len       takes one kind a point, from the start; the length counts bytes
+   points                 takes the number of points read
+   frames                 takes the number of Livox frames entered, 0 for other files
+
+   The caller owns all memory. A call keeps no pointer and allocates nothing.
+   No pointer may be null, even where its length is 0. Each must be aligned for its type.
+   The buffers must not overlap, and neither may *points and *frames.
+
+   What lies beyond the points in a buffer stays as it was. A refusal changes nothing in either
+   buffer. *points and *frames are always written: on a refusal they are 0, except that
+   LIDAR_TOO_LITTLE_ROOM writes the points needed to *points. */
+
+/* Reads a KITTI velodyne file: records of four floats, the fourth dropped. Every point is Cartesian.
+   A NaN arrives as a NaN, but which one is left open; every other float arrives bit for bit. */
+uint8_t lidar_read_kitti(const uint8_t *data, size_t data_len,
+                         float *numbers, size_t numbers_len,
+                         uint8_t *kinds, size_t kinds_len,
+                         size_t *points, size_t *frames);
+
+/* The same, with each float's pattern as the file stores it: a NaN, too, arrives bit for bit. */
+uint8_t lidar_read_kitti_bits(const uint8_t *data, size_t data_len,
+                              uint32_t *bits, size_t bits_len,
+                              uint8_t *kinds, size_t kinds_len,
+                              size_t *points, size_t *frames);
+
+#ifdef __cplusplus
+}
+#endif
+
+#endif
