@@ -33,7 +33,8 @@ enum lidar_number {
 /* The kind of a point, which says what its three numbers are. */
 enum lidar_kind {
     LIDAR_CARTESIAN = 1,  /* x, y, z in metres */
-    LIDAR_POLAR = 2       /* range in metres, elevation, azimuth */
+    LIDAR_POLAR = 2       /* range in metres, then elevation and azimuth in degrees,
+                             unless a call says otherwise */
 };
 
 /* For every call below:
