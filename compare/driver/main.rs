@@ -1,0 +1,35 @@
+//! Gives files to the original lidar.rs and to the facade, and compares what each makes of them.
+//!
+//! Arguments: a directory for the files, the seed, the number of files.
+
+mod kitti;
+mod lent;
+mod original;
+mod ours;
+mod random;
+mod reading;
+mod tally;
+
+use original::Original;
+use std::process::ExitCode;
+
+fn main() -> ExitCode {
+    let arguments: Vec<String> = std::env::args().skip(1).collect();
+    let [directory, seed, files] = &arguments[..] else {
+        return usage();
+    };
+    let (Ok(seed), Ok(files)) = (seed.parse(), files.parse()) else {
+        return usage();
+    };
+    let original = Original::new(directory.as_ref());
+    if kitti::compare(&original, seed, files).finish() {
+        ExitCode::SUCCESS
+    } else {
+        ExitCode::FAILURE
+    }
+}
+
+fn usage() -> ExitCode {
+    eprintln!("the seed and the number of files are whole numbers below 2^64");
+    ExitCode::from(2)
+}
