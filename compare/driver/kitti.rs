@@ -25,28 +25,29 @@ pub fn compare(original: &Original, seed: u64, files: u64) -> Tally {
         let mut random = Random::of_case(seed, case);
         let data = file(&mut random, case);
         tally.file(case, &data, |data| {
-            // A new generator, so that a shorter file is tried in the same way.
+            // A generator of its own, so that a shorter file is tried in the same way.
             let mut random = Random::of_case(!seed, case);
             let rooms = rooms(&mut random, data.len() / RECORD);
             // A file's bytes may start at any address.
             let start = random.below(RECORD);
             let placed = [&vec![0xEE; start], data].concat();
-            differs(original, &mut canaries, &placed[start..], &rooms)
+            compare_file(original, &mut canaries, &placed[start..], &rooms)
         });
     }
     tally.beside("the lengths around refusal 1", long_data(&mut canaries));
     tally
 }
 
-fn differs(
+/// Both calls, in every room. The error says what differs.
+fn compare_file(
     original: &Original,
     canaries: &mut Canaries,
     data: &[u8],
     rooms: &[Room],
 ) -> Result<(), String> {
     let expected = match original.read_kitti(data) {
-        None => Expected::Refused(8),
-        Some(bits) => Expected::Read {
+        Err(number) => Expected::Refused(number),
+        Ok(bits) => Expected::Read {
             kinds: vec![CARTESIAN; bits.len() / 3],
             bits,
             frames: 0,

@@ -139,7 +139,7 @@ fn is_nan(bits: u32) -> bool {
     bits & 0x7FFF_FFFF > 0x7F80_0000
 }
 
-/// The driver itself handles patterns alone, so that it moves no NaN through a float register.
+/// The driver keeps its slices as patterns, so that no copy of its own can change a NaN.
 fn as_floats(bits: &mut [u32]) -> &mut [f32] {
     // SAFETY: u32 and f32 have the same size and alignment, and every pattern is one of an f32.
     unsafe { std::slice::from_raw_parts_mut(bits.as_mut_ptr().cast(), bits.len()) }

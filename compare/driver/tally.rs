@@ -3,7 +3,7 @@
 /// Differences beyond these are counted and not told.
 const TOLD: u64 = 3;
 
-/// A file that differs is replaced by its shortest beginning that differs, up to this length.
+/// Of a file that differs, the shortest beginning that differs is told, up to this length.
 const SHRINK: usize = 4096;
 
 pub struct Tally {
@@ -23,21 +23,21 @@ impl Tally {
         }
     }
 
-    /// Compares one file. `differs` may be asked again, for beginnings of the data.
+    /// Compares one file. `compare` is called again on beginnings of a file that differs.
     pub fn file(
         &mut self,
         case: u64,
         data: &[u8],
-        mut differs: impl FnMut(&[u8]) -> Result<(), String>,
+        mut compare: impl FnMut(&[u8]) -> Result<(), String>,
     ) {
         self.files += 1;
-        let Err(what) = differs(data) else { return };
+        let Err(what) = compare(data) else { return };
         self.differences += 1;
         if self.differences > TOLD {
             return;
         }
         let shorter = (0..data.len().min(SHRINK))
-            .find_map(|length| Some((length, differs(&data[..length]).err()?)));
+            .find_map(|length| Some((length, compare(&data[..length]).err()?)));
         let (length, what) = shorter.unwrap_or((data.len(), what));
         eprintln!("{}: seed {}, case {case}: {what}", self.reader, self.seed);
         eprintln!(
