@@ -1,5 +1,5 @@
--- Laws of `number` and `field`, over the width and the byte order. Bytes that lie inside are a run that can be written out, byte by byte
--- (`number-run`), and a number of j + k bytes is one of j and one of k (`number-join`). Assumes nothing.
+-- Laws of `unsignedAt` and `field`, for any width and byte order. Bytes that lie inside are a run that can be written out, byte by byte
+-- (`number-run`), and a unsignedAt of j + k bytes is one of j and one of k (`number-join`). Assumes nothing.
 use Prim.Native.Nat.{ℕ, zero, suc, _+_, _-_, _*_, _^_, _≤_, _<_}
 use native.Mathlib.Nat.{add-zero, zero-add, add-suc, add-assoc, one-mul, mul-add, mul-assoc, pow-succ'}
 use native.Mathlib.Omega.{arith}
@@ -10,7 +10,7 @@ use lib.ListN.{length, getD, take, drop, length-drop}
 use lib.Seq.{drop-cons, take-add, drop-drop, length-take-le}
 use lib.Dec.{leb}
 use borrow.Author.Tests.{le-leb, lt-leb, leb-true, leb-false}
-use Rattle.fields.specs.Number.{Order, little, big, value, leastFirst, number, field}
+use Rattle.fields.specs.Number.{ByteOrder, little, big, value, leastFirst, unsignedAt, field}
 
 -- off + i, and off itself for i = 0, as code writes it
 abbrev pub at : ℕ → ℕ → ℕ
@@ -34,8 +34,8 @@ run-is s off i (suc k) h =
     rw (drop-cons s (off + i) 0, at-is off i, ← add-suc) (ap (λ (t : List ℕ). getD s (off + i) 0 ∷ t) (run-is s off (suc i) k rest))
 
 -- The law of the widths: a number that lies inside, by its bytes.
-pub number-run : (o : Order) (k : ℕ) (s : List ℕ) (off : ℕ) → off + k ≤ length s → number o k s off ≡ value (leastFirst o (run s off 0 k))
-unfolding number
+pub number-run : (o : ByteOrder) (k : ℕ) (s : List ℕ) (off : ℕ) → off + k ≤ length s → unsignedAt o k s off ≡ value (leastFirst o (run s off 0 k))
+unfolding unsignedAt
 number-run o k s off h =
     let inside : off + 0 + k ≤ length s = omega arith in
     ap (λ (n : ℕ). value (leastFirst o (take k (drop n s)))) (sym (add-zero off)) ∙ ap (λ (w : List ℕ). value (leastFirst o w)) (run-is s off 0 k inside)
@@ -46,27 +46,27 @@ value-append (x ∷ a) b =
     let e = value-append a b in
     rw (e, mul-add, pow-succ', mul-assoc, add-assoc)
 
--- A number of j + k bytes, from its j least significant ones and the others.
-pub number-join : (j k : ℕ) (s : List ℕ) (off : ℕ) → off + j + k ≤ length s → number little (j + k) s off ≡ number little j s off + 256 ^ j * number little k s (off + j)
-unfolding number leastFirst
+-- A unsignedAt of j + k bytes, from its j least significant ones and the others.
+pub number-join : (j k : ℕ) (s : List ℕ) (off : ℕ) → off + j + k ≤ length s → unsignedAt little (j + k) s off ≡ unsignedAt little j s off + 256 ^ j * unsignedAt little k s (off + j)
+unfolding unsignedAt leastFirst
 number-join j k s off h =
     let room : j ≤ length (drop off s) = simp length-drop (omega arith) in
     rw (take-add, drop-drop) (value-append (take j (drop off s)) (take k (drop (off + j) s)) ∙ rw (length-take-le j (drop off s) room))
 
-module _ {A : Type 0} (told : ℕ → A) (missing : A) (o : Order) (k : ℕ) (s : List ℕ) (off : ℕ) where
+module _ {A : Type 0} (wrap : ℕ → A) (missing : A) (o : ByteOrder) (k : ℕ) (s : List ℕ) (off : ℕ) where
   -- The two cases of a reader's answer.
-  pub field-inside : off + k ≤ length s → field told missing o k s off ≡ told (number o k s off)
+  pub field-inside : off + k ≤ length s → field wrap missing o k s off ≡ wrap (unsignedAt o k s off)
   unfolding field
   field-inside h = rw (le-leb (off + k) (length s) h)
 
-  pub field-outside : length s < off + k → field told missing o k s off ≡ missing
+  pub field-outside : length s < off + k → field wrap missing o k s off ≡ missing
   unfolding field
   field-outside h = rw (lt-leb (off + k) (length s) h)
 
   -- The same from the test that code makes, a Bool b.
   module _ {b : Bool} (test : b ≡ leb (off + k) (length s)) where
-    pub answer-inside : b ≡ true → {x : A} → x ≡ told (number o k s off) → x ≡ field told missing o k s off
+    pub answer-inside : b ≡ true → {x : A} → x ≡ wrap (unsignedAt o k s off) → x ≡ field wrap missing o k s off
     answer-inside t e = e ∙ sym (field-inside (leb-true (off + k) (length s) (sym test ∙ t)))
 
-    pub answer-outside : b ≡ false → missing ≡ field told missing o k s off
+    pub answer-outside : b ≡ false → missing ≡ field wrap missing o k s off
     answer-outside t = sym (field-outside (leb-false (off + k) (length s) (sym test ∙ t)))

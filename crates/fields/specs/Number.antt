@@ -1,4 +1,4 @@
--- A number in a run of bytes, over its width and its byte order.
+-- A number in a run of bytes, for any width and byte order.
 use Prim.Native.Nat.{ℕ, zero, suc, _+_, _-_, _*_, _^_}
 use mathlib.Core.Bool.{cond}
 use mathlib.Core.List.{List, [], _∷_, reverse}
@@ -6,9 +6,9 @@ use lib.ListN.{length, take, drop}
 use lib.Dec.{leb, ltb}
 use lib.IntN.{ℤ, pos, subℕ}
 
--- Which byte comes first: the least significant one, or the most significant one.
-pub data Order : Type 0 where
-  little big : Order
+-- Which byte comes first: the least significant one, or the most significant one, as in captures.
+pub data ByteOrder : Type 0 where
+  little big : ByteOrder
 
 -- The number whose digits to the base 256 these are, the least significant first.
 abbrev pub value : List ℕ → ℕ
@@ -16,20 +16,20 @@ value [] = 0
 value (b ∷ bs) = b + 256 * value bs
 
 -- The bytes in the order in which `value` takes them.
-unfoldable pub leastFirst : Order → List ℕ → List ℕ
+unfoldable pub leastFirst : ByteOrder → List ℕ → List ℕ
 leastFirst little bs = bs
 leastFirst big bs = reverse bs
 
--- The number in the k bytes of s from off on.
-unfoldable pub number : Order → ℕ → List ℕ → ℕ → ℕ
+-- The number in the k bytes of s from off on. It is asked only where they lie inside s.
+unfoldable pub unsignedAt : ByteOrder → ℕ → List ℕ → ℕ → ℕ
 unfolding leastFirst
-number o k s off = value (leastFirst o (take k (drop off s)))
+unsignedAt o k s off = value (leastFirst o (take k (drop off s)))
 
--- Two's complement at w bits: from 2 ^ (w - 1) on, n stands for n - 2 ^ w.
+-- Two's complement at w bits, for n below 2 ^ w: from 2 ^ (w - 1) on, n stands for n - 2 ^ w.
 unfoldable pub signed : ℕ → ℕ → ℤ
 signed w n = cond (ltb n (2 ^ (w - 1))) (pos n) (subℕ n (2 ^ w))
 
--- What a reader of k bytes at off answers: the number, as `told` has it, or `missing` where the k bytes do not lie inside s.
-unfoldable pub field : {A : Type 0} → (ℕ → A) → A → Order → ℕ → List ℕ → ℕ → A
-unfolding number
-field told missing o k s off = cond (leb (off + k) (length s)) (told (number o k s off)) missing
+-- What a reader of k bytes at off answers: the number, wrapped as a value, or `missing` where the k bytes do not lie inside s.
+unfoldable pub field : {A : Type 0} → (ℕ → A) → A → ByteOrder → ℕ → List ℕ → ℕ → A
+unfolding unsignedAt
+field wrap missing o k s off = cond (leb (off + k) (length s)) (wrap (unsignedAt o k s off)) missing

@@ -7,7 +7,7 @@ ghost use Prim.Native.Nat.{_+_, _≤_};
 ghost use lib.Dec.{leb};
 ghost use lib.ListN.{length};
 ghost use lib.Ieee.{binary32, ofBits};
-ghost use Rattle.fields.specs.Number.{little, big, value, number, signed, field};
+ghost use Rattle.fields.specs.Number.{little, big, value, unsignedAt, signed, field};
 
 pub enum U16 {
     Value(u16),
@@ -142,35 +142,35 @@ fn lies_inside(data: &[u8], off: usize, width: usize) -> bool
 
 fn le_2(data: &[u8], off: usize) -> u16
     requires { ⌜ off + 2 ≤ length (now «data») ⌝ }
-    ensures { λ r. ⌜ r ≡ number little 2 (now («data» .entry)) off ⌝ }
+    ensures { λ r. ⌜ r ≡ unsignedAt little 2 (now («data» .entry)) off ⌝ }
 {
     join_2(data[off], data[off + 1])
 }
 
 fn be_2(data: &[u8], off: usize) -> u16
     requires { ⌜ off + 2 ≤ length (now «data») ⌝ }
-    ensures { λ r. ⌜ r ≡ number big 2 (now («data» .entry)) off ⌝ }
+    ensures { λ r. ⌜ r ≡ unsignedAt big 2 (now («data» .entry)) off ⌝ }
 {
     join_2(data[off + 1], data[off])
 }
 
 fn le_4(data: &[u8], off: usize) -> u32
     requires { ⌜ off + 4 ≤ length (now «data») ⌝ }
-    ensures { λ r. ⌜ r ≡ number little 4 (now («data» .entry)) off ⌝ }
+    ensures { λ r. ⌜ r ≡ unsignedAt little 4 (now («data» .entry)) off ⌝ }
 {
     join_4(data[off], data[off + 1], data[off + 2], data[off + 3])
 }
 
 fn be_4(data: &[u8], off: usize) -> u32
     requires { ⌜ off + 4 ≤ length (now «data») ⌝ }
-    ensures { λ r. ⌜ r ≡ number big 4 (now («data» .entry)) off ⌝ }
+    ensures { λ r. ⌜ r ≡ unsignedAt big 4 (now («data» .entry)) off ⌝ }
 {
     join_4(data[off + 3], data[off + 2], data[off + 1], data[off])
 }
 
 fn le_8(data: &[u8], off: usize) -> u64
     requires { ⌜ off + 8 ≤ length (now «data») ⌝ }
-    ensures { λ r. ⌜ r ≡ number little 8 (now («data» .entry)) off ⌝ }
+    ensures { λ r. ⌜ r ≡ unsignedAt little 8 (now («data» .entry)) off ⌝ }
 {
     le_4(data, off) as u64 + le_4(data, off + 4) as u64 * 0x1_0000_0000
 }

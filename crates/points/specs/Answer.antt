@@ -1,11 +1,11 @@
--- The numbers a call may give back, and what an answer tells besides.
+-- The numbers a call may give back: what each case of code's answer stands for.
 use Prim.Native.Nat.{ℕ}
 use Rattle.points.specs.declared.answer.Refusal.{Refusal}
 use Rattle.points.specs.declared.answer.Refusal.the-variants.{TooLong, BadSettings, TooShort, WrongMark, WrongCode, HeaderTooShort, DevicesPastEnd, NotWholeRecords, NoPayload, NoRoom, NotPlaceable, BadPulseLength, OutsideWindow}
 use Rattle.points.specs.declared.answer.Answer.{Answer}
 use Rattle.points.specs.declared.answer.Answer.the-variants.{Read, Refused}
 
--- The table of refusals: the number, and the points told with it, which are those needed where there is no room.
+-- Each refusal's number, and the points told with it: none, but for 10 the points needed.
 abbrev pub tells : Refusal → ℕ × ℕ
 tells TooLong = (1, 0)
 tells BadSettings = (2, 0)

@@ -1,5 +1,5 @@
--- What a reader hands over: points, answers, and what reading into lent slices means.
+-- What a reader hands over: points, the numbers a call gives back, and what reading into lent slices means.
 pub mod Answer
 pub mod Point
-pub mod Reading
+pub mod ReadInto
 pub mod Tabulate

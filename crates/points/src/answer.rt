@@ -3,21 +3,33 @@
 ghost use mathlib.Core.Path.{_≡_};
 ghost use Rattle.points.specs.Answer.{refusalNumber, refusalPoints, numberOf, pointsOf, framesOf};
 
-// Why a call refuses. The order is that of the numbers, 1 to 13, and of the checks.
+// Why a call refuses, by the paper's numbers, which are also the order of the checks.
 pub enum Refusal {
+    // 1: the data is longer than 2,147,483,647 bytes.
     TooLong,
+    // 2: Ouster settings out of range.
     BadSettings,
+    // 3: the data is below 24 bytes (capture, LVX) or 28 (LVX2).
     TooShort,
+    // 4: the opening mark, the file's magic, is wrong.
     WrongMark,
+    // 5: the LVX code at offset 20 is wrong.
     WrongCode,
+    // 6: LVX data is below 29 bytes.
     HeaderTooShort,
+    // 7: the Livox device section ends past the data.
     DevicesPastEnd,
+    // 8: KITTI data is not a multiple of 16 bytes.
     NotWholeRecords,
+    // 9: a capture has no payload on the reader's port.
     NoPayload,
-    // Carries the points that there should be room for.
+    // 10: a lent slice is too short. Carries the number of points in the data.
     NoRoom(usize),
+    // 11: the point to be placed is no whole-millimetre Livox point, or there is none of its rank.
     NotPlaceable,
+    // 12: the pulse length is outside 1 to 1,000 micrometres.
     BadPulseLength,
+    // 13: the exact place lies beyond 16,000,000 micrometres either way.
     OutsideWindow,
 }
 

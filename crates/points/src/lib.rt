@@ -1,5 +1,8 @@
 // What every reader hands over: points, laid into lent slices, and an answer.
 
+// Longer data is refused.
+pub const MAX_DATA_LEN: usize = 2_147_483_647;
+
 mod answer;
 mod lay;
 mod point;

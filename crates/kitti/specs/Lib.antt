@@ -1,0 +1,2 @@
+-- What a KITTI file means.
+pub mod Kitti
