@@ -7,7 +7,7 @@ use mathlib.Core.Path.{_≡_, refl, sym, ap, _∙_}
 use mathlib.Core.Bool.{Bool, true, false}
 use mathlib.Core.List.{List, [], _∷_, _++_}
 use lib.ListN.{length, getD, take, drop, length-drop}
-use lib.Seq.{drop-cons, take-add, drop-drop, length-take-le}
+use lib.Seq.{drop-cons, take-add, take-take, drop-drop, length-take-le}
 use lib.Dec.{leb}
 use borrow.Author.Tests.{le-leb, lt-leb, leb-true, leb-false}
 use Rattle.fields.specs.Number.{ByteOrder, little, big, value, leastFirst, unsignedAt, field}
@@ -52,6 +52,17 @@ unfolding unsignedAt leastFirst
 number-join j k s off h =
     let room : j ≤ length (drop off s) = simp length-drop (omega arith) in
     rw (take-add, drop-drop) (value-append (take j (drop off s)) (take k (drop (off + j) s)) ∙ rw (length-take-le j (drop off s) room))
+
+part : (k off n : ℕ) (l : List ℕ) → off + k ≤ n → take k (drop off (take n l)) ≡ take k (drop off l)
+part k zero n l h = take-take k n l (omega arith)
+part k (suc off) zero l h = absurd (omega arith)
+part k (suc off) (suc n) [] h = refl
+part k (suc off) (suc n) (x ∷ l) h = part k off n l (omega arith)
+
+-- A number in a part of the bytes, as a part is lent: the n bytes from start on.
+pub number-part : (o : ByteOrder) (k : ℕ) (s : List ℕ) (start n off : ℕ) → off + k ≤ n → unsignedAt o k (take n (drop start s)) off ≡ unsignedAt o k s (start + off)
+unfolding unsignedAt
+number-part o k s start n off h = ap (λ (w : List ℕ). value (leastFirst o w)) (part k off n (drop start s) h ∙ rw drop-drop)
 
 module _ {A : Type 0} (wrap : ℕ → A) (missing : A) (o : ByteOrder) (k : ℕ) (s : List ℕ) (off : ℕ) where
   -- The two cases of a reader's answer.
