@@ -1,0 +1,5 @@
+-- The worked cases of the paper: calls with their input, and what each is to tell.
+pub mod Call
+pub mod Cases
+pub mod Kitti
+pub mod Row
