@@ -1,0 +1,5 @@
+-- The laws that stand for the definitions of `specs/` in the proofs of this crate and of its callers.
+mod Opening
+pub mod Records
+mod Rule
+pub mod Steps
