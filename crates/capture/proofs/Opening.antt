@@ -11,7 +11,7 @@ use Rattle.fields.specs.Number.{big, unsignedAt}
 use Rattle.points.specs.ReadInto.{firstRefusal}
 use Rattle.capture.specs.declared.reading.Reading.{Reading}
 use Rattle.capture.specs.declared.walk.Cursor.{Cursor}
-use Rattle.capture.specs.Savefile.{leastFirstMagic, mostFirstMagic, checks}
+use Rattle.capture.specs.Savefile.{leastFirstMagic, mostFirstMagic, fileChecks, checks}
 use Rattle.capture.specs.Payloads.{opening, startCursor}
 
 -- the magic that code has read
@@ -26,21 +26,21 @@ module _ (bytes : List ℕ) (magic : ℕ) (e : magic ≡ unsignedAt big 4 bytes 
 
 module _ (reading : Reading) (port : ℕ) (bytes : List ℕ) where
   pub too-long : 2147483647 < length bytes → (1, []) ≡ opening reading port bytes
-  unfolding opening firstRefusal checks
+  unfolding opening firstRefusal checks fileChecks
   too-long h = rw (lt-ltb 2147483647 (length bytes) h)
 
   module _ (a : length bytes ≤ 2147483647) where
     pub too-short : length bytes < 24 → (3, []) ≡ opening reading port bytes
-    unfolding opening firstRefusal checks
+    unfolding opening firstRefusal checks fileChecks
     too-short h = rw (le-ltb 2147483647 (length bytes) a, lt-ltb (length bytes) 24 h)
 
     module _ (b : 24 ≤ length bytes) where
       pub wrong-mark : (leastFirstMagic bytes || mostFirstMagic bytes) ≡ false → (4, []) ≡ opening reading port bytes
-      unfolding opening firstRefusal checks
+      unfolding opening firstRefusal checks fileChecks
       wrong-mark h = rw (le-ltb 2147483647 (length bytes) a, le-ltb (length bytes) 24 b, h)
 
       pub opened : (leastFirstMagic bytes || mostFirstMagic bytes) ≡ true → (0, startCursor reading port bytes ∷ []) ≡ opening reading port bytes
-      unfolding opening firstRefusal checks
+      unfolding opening firstRefusal checks fileChecks
       opened h = rw (le-ltb 2147483647 (length bytes) a, le-ltb (length bytes) 24 b, h)
 
   -- and back: what an answer says of the checks

@@ -33,12 +33,12 @@ module _ (reading : Reading) (big : Bool) (port : ℕ) (bytes : List ℕ) where
   records b at = recordsFrom b (orderOf big) bytes at
 
   -- one record and those behind it
-  one-more : (b at : ℕ) → at + 16 + capturedAt (orderOf big) bytes at ≤ length bytes
+  pub one-more : (b at : ℕ) → at + 16 + capturedAt (orderOf big) bytes at ≤ length bytes
       → found (records (suc b) at) ≡ foundIn reading port bytes (record { header = at; captured = capturedAt (orderOf big) bytes at }) ++ found (records b (at + 16 + capturedAt (orderOf big) bytes at))
   unfolding recordsFrom flatMap
   one-more b at h = rw (le-leb (at + 16 + capturedAt (orderOf big) bytes at) (length bytes) h)
 
-  none-left : (b at : ℕ) → length bytes < at + 16 + capturedAt (orderOf big) bytes at → found (records b at) ≡ []
+  pub none-left : (b at : ℕ) → length bytes < at + 16 + capturedAt (orderOf big) bytes at → found (records b at) ≡ []
   unfolding flatMap
   none-left b at h = rw (past (orderOf big) bytes b at h)
 

@@ -35,10 +35,15 @@ abbrev pub orderOf : Bool → ByteOrder
 orderOf true = big
 orderOf false = little
 
--- 1; 3: the data is below 24 bytes; 4: the magic is none of the four.
-unfoldable pub checks : Reading → List ℕ → List Check
+-- 3: the data is below 24 bytes; 4: the magic is none of the four.
+unfoldable pub fileChecks : Reading → List ℕ → List Check
 unfolding leastFirstMagic mostFirstMagic
-checks reading bytes = tooLong bytes ∷ (3, ltb (length bytes) 24) ∷ (4, not (leastFirstMagic bytes || mostFirstMagic bytes)) ∷ []
+fileChecks reading bytes = (3, ltb (length bytes) 24) ∷ (4, not (leastFirstMagic bytes || mostFirstMagic bytes)) ∷ []
+
+-- 1, then those.
+unfoldable pub checks : Reading → List ℕ → List Check
+unfolding fileChecks
+checks reading bytes = tooLong bytes ∷ fileChecks reading bytes
 
 -- A record: where its header stands, and how many bytes were captured, which follow the header.
 pub record RecordAt : Type 0 where
