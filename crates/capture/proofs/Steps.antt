@@ -1,7 +1,7 @@
 -- The walk by steps. Behind the record of a payload the walk has exactly the later payloads (`later`), so going from cursor to cursor yields the payloads in
 -- order (`step-end`, `step-payload`). Every payload lies inside the capture and is not empty (`all-within`), and so the part that is handed back is empty exactly
 -- if the capture is refused or has no payload of that rank (`empty-exactly`). Assumes nothing.
-use Prim.Native.Nat.{ℕ, zero, suc, _+_, _≤_, _<_, zero-le}
+use Prim.Native.Nat.{ℕ, zero, suc, _+_, _-_, _≤_, _<_, zero-le}
 use native.Mathlib.Nat.{lt-of-not-le}
 use native.Mathlib.Decide.{decLe, ℕ-discrete}
 use native.Mathlib.Omega.{arith}
@@ -131,6 +131,20 @@ module _ (reading : Reading) (big : Bool) (port : ℕ) (bytes : List ℕ) where
             (all-within b (at + 16 + n)))
         | no k ↦ subst (AllWithin bytes) (sym (none-left reading big port bytes (suc b) at (lt-of-not-le k))) tt
       ]
+
+-- So does the payload of a step, and code lends its bytes.
+pub step-within : (c : Cursor) (bytes : List ℕ) (p : Place) (next : Cursor) → stepOf c bytes ≡ Payload p next → Within bytes p
+unfolding stepOf foundFrom
+step-within c bytes p next e =
+    go (flatMap (foundIn (c .reading) (c .port) bytes) (recordsFrom (length bytes) (orderOf (c .«big_endian»)) bytes (c .at)))
+    (all-within (c .reading) (c .«big_endian») (c .port) bytes (length bytes) (c .at)) e
+  where
+    go : (l : List Found) → AllWithin bytes l → stepTo c l ≡ Payload p next → Within bytes p
+    go [] a q = let never : _≡_ {A = ℕ} 0 1 = cc in absurd (omega arith)
+    go (f ∷ l) a q = let is : f .place ≡ p = cc in subst (Within bytes) is (a .0)
+
+pub part-lent : (bytes : List ℕ) (p : Place) → take (p .start + p .len - p .start) (drop (p .start) bytes) ≡ bytesAt bytes p
+part-lent bytes p = let e : p .start + p .len - p .start ≡ p .len = omega arith in rw e
 
 at-rank : (bytes : List ℕ) (l : List Found) (rank : ℕ) (d : Place) → AllWithin bytes l → rank < length l → Within bytes (getD (places l) rank d)
 at-rank bytes [] rank d a h = absurd (omega arith)

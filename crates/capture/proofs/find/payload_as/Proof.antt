@@ -1,21 +1,17 @@
 -- `capture::payload_as` meets its contract: the place of the rank lies inside the capture, and the part that starts there is handed back. Assumes nothing.
-use Prim.Native.Nat.{ℕ, _+_, _-_, _≤_}
+use Prim.Native.Nat.{_+_, _≤_}
 use native.Mathlib.Omega.{arith}
-use mathlib.Core.Path.{_≡_, refl, ap, _∙_}
-use mathlib.Core.List.{List}
-use lib.ListN.{length, take, drop}
+use mathlib.Core.Path.{refl, ap, _∙_}
+use lib.ListN.{length}
 use Rattle.capture.specs.declared.walk.Place.{Place}
 use Rattle.capture.specs.Payloads.{bytesAt}
-use Rattle.capture.proofs.Steps.{place-inside}
+use Rattle.capture.proofs.Steps.{part-lent, place-inside}
 use borrow.Author.Needs.{needs}
 use Rattle.capture.proofs.find.payload_as.Statement.{statement}
 use Rattle.capture.proofs.find.payload_as.Tie as tie
 
 inside : (c : tie.After-payload-place-as) → c .payload-place-as .result .start + c .payload-place-as .result .len ≤ length (c .before .before .args .«data» .now)
 inside c = rw (c .payload-place-as .ensures) (place-inside _ _ _ _)
-
-as-lent : (bytes : List ℕ) (p : Place) → take (p .start + p .len - p .start) (drop (p .start) bytes) ≡ bytesAt bytes p
-as-lent bytes p = let e : p .start + p .len - p .start ≡ p .len = omega arith in rw e
 
 payload-place-as-requires : tie.Need-payload-place-as-requires
 payload-place-as-requires c κs = search needs
@@ -36,7 +32,7 @@ returns : tie.Need-returns
 returns c =
     let a = c .before .before .before .before .args in
     let is = c .before .before .payload-place-as .ensures in
-    (as-lent (a .«data» .now) (c .before .before .payload-place-as .result) ∙ ap (bytesAt (a .«data» .now)) is, (refl, ap (λ (p : Place). p .start + a .«data» .ptr .1) is))
+    (part-lent (a .«data» .now) (c .before .before .payload-place-as .result) ∙ ap (bytesAt (a .«data» .now)) is, (refl, ap (λ (p : Place). p .start + a .«data» .ptr .1) is))
 
 pub payload-as-spec : {M : Type 1} → statement M
 payload-as-spec =
