@@ -1,6 +1,6 @@
 -- The laws that stand for the definitions of `specs/` in the proofs of this crate and of its callers.
 pub mod Joined
-mod Opening
+pub mod Opening
 pub mod Records
 mod Rule
 pub mod Steps

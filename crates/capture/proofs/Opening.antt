@@ -56,3 +56,14 @@ module _ (reading : Reading) (port : ℕ) (bytes : List ℕ) where
   refuses n e none =
       let one : [] ≡ startCursor reading port bytes ∷ [] = ap (λ (x : ℕ × List Cursor). x .1) e ∙ rw none in
       let never : _≡_ {A = ℕ} 0 1 = cc in omega arith
+
+  -- A cursor keeps what the capture was opened with.
+  pub kept : (cursor : Cursor) → (0, cursor ∷ []) ≡ opening reading port bytes → (cursor .reading ≡ reading) × (cursor .port ≡ port)
+  kept cursor e =
+      let start = walks cursor e .1 in
+      (ap (λ (c : Cursor). c .reading) start, ap (λ (c : Cursor). c .port) start)
+
+  pub own : (cursor : Cursor) → (0, cursor ∷ []) ≡ opening reading port bytes → (0, cursor ∷ []) ≡ opening (cursor .reading) (cursor .port) bytes
+  own cursor e =
+      let same = kept cursor e in
+      e ∙ sym (ap (λ (r : Reading). opening r (cursor .port) bytes) (same .0) ∙ ap (λ (p : ℕ). opening reading p bytes) (same .1))
