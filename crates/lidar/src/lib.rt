@@ -1,6 +1,6 @@
 // What others link: every public call, and its form for C.
 
-mod c;
+mod c_kitti;
 
 pub use kitti::read_kitti;
 pub use kitti::read_kitti_bits;

@@ -1,7 +1,7 @@
 -- `lidar::lidar_read_kitti_bits` meets its contract: what the answer's methods give are the numbers that the Rattle call's contract speaks of. Assumes nothing.
 use borrow.Author.Needs.{needs}
-use Rattle.lidar.proofs.c.lidar_read_kitti_bits.Statement.{statement}
-use Rattle.lidar.proofs.c.lidar_read_kitti_bits.Tie as tie
+use Rattle.lidar.proofs.c_kitti.lidar_read_kitti_bits.Statement.{statement}
+use Rattle.lidar.proofs.c_kitti.lidar_read_kitti_bits.Tie as tie
 
 read-kitti-bits-requires : tie.Need-read-kitti-bits-requires
 read-kitti-bits-requires c κs = search needs

@@ -1,5 +1,5 @@
-// The calls as include/lidar.h declares them. Each gives back the paper's number, and the points and
-// the frames by reference.
+// KITTI files, as include/lidar.h declares the calls. Each gives back the paper's number, and the points
+// and the frames by reference.
 
 ghost use mathlib.Core.Path.{_≡_};
 ghost use Rattle.points.specs.ReadInto.{outcome};
