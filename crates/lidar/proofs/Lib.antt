@@ -1,0 +1,2 @@
+-- The laws that stand for the definitions of `specs/` in the proofs of this crate.
+mod Next

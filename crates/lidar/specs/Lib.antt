@@ -1,0 +1,2 @@
+-- What the C forms give back where a definition of the crates below does not say it.
+pub mod Capture
