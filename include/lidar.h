@@ -2,6 +2,7 @@
 #ifndef LIDAR_H
 #define LIDAR_H
 
+#include <stdbool.h>
 #include <stddef.h>
 #include <stdint.h>
 
@@ -14,20 +15,20 @@ extern "C" {
    A check that concerns another file or call is skipped. */
 enum lidar_number {
     LIDAR_READ = 0,
-    LIDAR_DATA_TOO_LONG = 1,      /* the data is longer than 2147483647 bytes */
+    LIDAR_TOO_LONG = 1,           /* the data is longer than 2147483647 bytes */
     LIDAR_BAD_SETTINGS = 2,       /* Ouster: beams not 16, 32, 64 or 128, columns outside 1 to 64,
                                      or fewer elevations than beams */
-    LIDAR_DATA_TOO_SHORT = 3,     /* below 24 bytes (capture, LVX) or 28 (LVX2) */
+    LIDAR_TOO_SHORT = 3,          /* below 24 bytes (capture, LVX) or 28 (LVX2) */
     LIDAR_WRONG_MARK = 4,         /* the opening bytes are not those of the format */
     LIDAR_WRONG_CODE = 5,         /* LVX: the code at offset 20 is not 0xAC0EA767 */
     LIDAR_HEADER_TOO_SHORT = 6,   /* LVX: below 29 bytes */
-    LIDAR_DEVICES_PAST_DATA = 7,  /* Livox: the device section ends past the data */
+    LIDAR_DEVICES_PAST_END = 7,   /* Livox: the device section ends past the data */
     LIDAR_NOT_WHOLE_RECORDS = 8,  /* KITTI: the length is not a multiple of 16 bytes */
     LIDAR_NO_PAYLOAD = 9,         /* capture: no payload on the reader's port */
-    LIDAR_TOO_LITTLE_ROOM = 10,   /* a slice is too short; *points tells the points needed */
-    LIDAR_NO_SUCH_POINT = 11,     /* placing: not a whole-millimetre Livox point, or no such rank */
+    LIDAR_NO_ROOM = 10,           /* a slice is too short; *points tells the points needed */
+    LIDAR_NOT_PLACEABLE = 11,     /* placing: not a whole-millimetre Livox point, or no such rank */
     LIDAR_BAD_PULSE_LENGTH = 12,  /* placing: outside 1 to 1000 micrometres */
-    LIDAR_PLACE_TOO_FAR = 13      /* placing: beyond 16000000 micrometres either way */
+    LIDAR_OUTSIDE_WINDOW = 13     /* placing: beyond 16000000 micrometres either way */
 };
 
 /* The kind of a point, which says what its three numbers are. */
@@ -37,22 +38,23 @@ enum lidar_kind {
                              unless a call says otherwise */
 };
 
-/* For every call below:
+/* For every call below: data and data_len are the file's bytes, which are only read.
 
-   data, data_len         the file's bytes; they are only read
+   The caller owns all memory. A call keeps no pointer and allocates nothing.
+   No pointer may be null, even where its length is 0. Each must be aligned for its type.
+   What a call writes may overlap neither the data nor anything else that it writes. */
+
+/* ---- point clouds
+
    numbers, numbers_len   takes three floats a point, from the start; the length counts floats
    bits, bits_len         the same, with each float as its 32-bit pattern; the length counts patterns
    kinds, kinds_len       takes one kind a point, from the start; the length counts bytes
    points                 takes the number of points read
    frames                 takes the number of Livox frames entered, 0 for other files
 
-   The caller owns all memory. A call keeps no pointer and allocates nothing.
-   No pointer may be null, even where its length is 0. Each must be aligned for its type.
-   The buffers must not overlap, and neither may *points and *frames.
-
    What lies beyond the points in a buffer stays as it was. A refusal changes nothing in either
    buffer. *points and *frames are always written: on a refusal they are 0, except that
-   LIDAR_TOO_LITTLE_ROOM writes the points needed to *points. */
+   LIDAR_NO_ROOM writes the points needed to *points. */
 
 /* Reads a KITTI velodyne file: records of four floats, the fourth dropped. Every point is Cartesian.
    A NaN arrives as a NaN, but which one is left open; every other float arrives bit for bit. */
@@ -66,6 +68,40 @@ uint8_t lidar_read_kitti_bits(const uint8_t *data, size_t data_len,
                               uint32_t *bits, size_t bits_len,
                               uint8_t *kinds, size_t kinds_len,
                               size_t *points, size_t *frames);
+
+/* ---- captures: the UDP payloads of a libpcap savefile
+
+   savefile   the reading: false is the Rust's, which takes the byte order of lengths from the magic
+              the wrong way round; true is the format's, which also passes over an IHL below 5
+   port       the destination port; 0 asks for every one
+   start      takes where the payload's first byte stands in the data
+   len        takes the payload's length, at least 1
+
+   *start and *len are always written: where there is no payload, both are 0.
+   The calls without `savefile` use the usual reading, which is the Rust's. */
+
+/* Finds the payload of a rank, counted from 0. Gives back LIDAR_READ, whether or not there is one,
+   or LIDAR_TOO_LONG, LIDAR_TOO_SHORT or LIDAR_WRONG_MARK. Takes time for the records up to that
+   payload: to go through all of them, use lidar_next_payload. */
+uint8_t lidar_payload_place_as(const uint8_t *data, size_t data_len, bool savefile,
+                               uint16_t port, size_t rank, size_t *start, size_t *len);
+
+uint8_t lidar_payload_place(const uint8_t *data, size_t data_len,
+                            uint16_t port, size_t rank, size_t *start, size_t *len);
+
+/* Finds the next payload, and gives back whether there was one. *at is where the walk stands: 0
+   before the first call, and then what the last call left in it, behind the payload's record.
+   Where there is no payload more, or the capture is refused, *at stays.
+
+       size_t at = 0, start, len;
+       while (lidar_next_payload(data, data_len, port, &at, &start, &len))
+           use(data + start, len);
+*/
+bool lidar_next_payload_as(const uint8_t *data, size_t data_len, bool savefile,
+                           uint16_t port, size_t *at, size_t *start, size_t *len);
+
+bool lidar_next_payload(const uint8_t *data, size_t data_len,
+                        uint16_t port, size_t *at, size_t *start, size_t *len);
 
 #ifdef __cplusplus
 }
