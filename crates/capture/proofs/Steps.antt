@@ -75,6 +75,28 @@ module _ (reading : Reading) (big : Bool) (port : ℕ) (bytes : List ℕ) where
   unfolding foundFrom
   later at f rest e = later-ones (length bytes) at f rest (omega arith) e
 
+  -- The walk goes on further behind.
+  ahead : (r : RecordAt) (s : Start) (rest l : List Found) (f : Found) (from : ℕ) → from < recordEnd r → ofStart r s ++ rest ≡ f ∷ l → (rest ≡ f ∷ l → from < f .next) → from < f .next
+  ahead r Nothing rest l f from h e go = go e
+  ahead r (At start) rest l f from h e go = let next : recordEnd r ≡ f .next = cc in omega arith
+
+  further-on : (b at from : ℕ) (f : Found) (l : List Found) → from ≤ at → found (records b at) ≡ f ∷ l → from < f .next
+  unfolding recordsFrom flatMap foundIn
+  further-on zero at from f l h e = let never : _≡_ {A = ℕ} 0 1 = cc in absurd (omega arith)
+  further-on (suc b) at from f l h e =
+      let n = capturedAt (orderOf big) bytes at in
+      let r : RecordAt = record { header = at; captured = n } in
+      elim (decLe (at + 16 + n) (length bytes)) [
+        | yes k ↦
+            ahead r (startOf (verdict reading port (recordBytes bytes r))) (found (records b (at + 16 + n))) l f from (omega arith) (sym (one-more b at k) ∙ e)
+            (λ q. further-on b (at + 16 + n) from f l (omega arith) q)
+        | no k ↦ let z = none-left (suc b) at (lt-of-not-le k) in let never : _≡_ {A = ℕ} 0 1 = cc in absurd (omega arith)
+      ]
+
+  pub further : (at : ℕ) (f : Found) (rest : List Found) → foundFrom reading big port bytes at ≡ f ∷ rest → at < f .next
+  unfolding foundFrom
+  further at f rest e = further-on (length bytes) at at f rest (omega arith) e
+
 -- ---- from cursor to cursor
 abbrev places : List Found → List Place
 places = map (λ (f : Found). f .place)
@@ -100,6 +122,20 @@ module _ (c : Cursor) (bytes : List ℕ) where
           let is : record { at = f .next; port = c .port; reading = c .reading; «big_endian» = c .«big_endian» } ≡ next = cc in
           let head : f .place ≡ p = cc in
           rw (head, rest, ← is)
+
+  -- The next cursor differs in its place alone, which is further on.
+  pub step-on : (p : Place) (next : Cursor) → stepOf c bytes ≡ Payload p next
+      → (c .at < next .at) × (next ≡ record { at = next .at; port = c .port; reading = c .reading; «big_endian» = c .«big_endian» })
+  unfolding stepOf
+  step-on p next e = go (foundFrom (c .reading) (c .«big_endian») (c .port) bytes (c .at)) refl e
+    where
+      go : (l : List Found) → foundFrom (c .reading) (c .«big_endian») (c .port) bytes (c .at) ≡ l → stepTo c l ≡ Payload p next
+          → (c .at < next .at) × (next ≡ record { at = next .at; port = c .port; reading = c .reading; «big_endian» = c .«big_endian» })
+      go [] q s = let never : _≡_ {A = ℕ} 0 1 = cc in absurd (omega arith)
+      go (f ∷ l) q s =
+          let is : record { at = f .next; port = c .port; reading = c .reading; «big_endian» = c .«big_endian» } ≡ next = cc in
+          let on = further (c .reading) (c .«big_endian») (c .port) bytes (c .at) f l q in
+          rw (← is) (on, refl)
 
 -- ---- every payload lies inside the capture, and is not empty
 pub record Within (bytes : List ℕ) (p : Place) : Type 0 where
