@@ -1,6 +1,7 @@
 //! KITTI: four f32 a point, the fourth dropped.
 
 use crate::lent::Canaries;
+use crate::long::{untouched, TOO_LONG};
 use crate::original::Original;
 use crate::ours;
 use crate::random::Random;
@@ -9,9 +10,6 @@ use crate::tally::Tally;
 
 const RECORD: usize = 16;
 const CARTESIAN: u8 = 1;
-
-/// Refusal 1 begins here.
-const TOO_LONG: usize = 1 << 31;
 
 const CALLS: [Call; 2] = [
     Call::Bits("lidar_read_kitti_bits", &ours::read_kitti_bits),
@@ -148,14 +146,4 @@ fn long_data(canaries: &mut Canaries) -> Result<(), String> {
         }
     }
     Ok(())
-}
-
-/// Zeroed memory that the system gives no pages for until it is written.
-fn untouched(length: usize) -> Option<&'static [u8]> {
-    let layout = std::alloc::Layout::array::<u8>(length).ok()?;
-    // SAFETY: the length is not 0, the memory is zeroed, and it is never freed or written.
-    unsafe {
-        let start = std::alloc::alloc_zeroed(layout);
-        (!start.is_null()).then(|| std::slice::from_raw_parts(start, length))
-    }
 }

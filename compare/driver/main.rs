@@ -1,14 +1,18 @@
 //! Gives files to the original lidar.rs and to the facade, and compares what each makes of them.
 //!
-//! Arguments: a directory for the files, the seed, the number of files.
+//! Arguments: a directory for the files, the seed, the number of files for each thing compared.
 
+mod capture_files;
+mod captures;
 mod kitti;
 mod lent;
+mod long;
 mod original;
 mod ours;
 mod random;
 mod reading;
 mod tally;
+mod words;
 
 use original::Original;
 use std::process::ExitCode;
@@ -22,7 +26,13 @@ fn main() -> ExitCode {
         return usage();
     };
     let original = Original::new(directory.as_ref());
-    if kitti::compare(&original, seed, files).finish() {
+    // All of them run, whatever differs.
+    let same = [
+        kitti::compare(&original, seed, files).finish(),
+        captures::compare(&original, seed, files).finish(),
+        captures::compare_savefile(seed, files).finish(),
+    ];
+    if same == [true; 3] {
         ExitCode::SUCCESS
     } else {
         ExitCode::FAILURE

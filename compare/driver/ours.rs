@@ -22,6 +22,44 @@ extern "C" {
         points: *mut usize,
         frames: *mut usize,
     ) -> u8;
+
+    fn lidar_payload_place_as(
+        data: *const u8,
+        data_len: usize,
+        savefile: bool,
+        port: u16,
+        rank: usize,
+        start: *mut usize,
+        len: *mut usize,
+    ) -> u8;
+
+    fn lidar_payload_place(
+        data: *const u8,
+        data_len: usize,
+        port: u16,
+        rank: usize,
+        start: *mut usize,
+        len: *mut usize,
+    ) -> u8;
+
+    fn lidar_next_payload_as(
+        data: *const u8,
+        data_len: usize,
+        savefile: bool,
+        port: u16,
+        at: *mut usize,
+        start: *mut usize,
+        len: *mut usize,
+    ) -> bool;
+
+    fn lidar_next_payload(
+        data: *const u8,
+        data_len: usize,
+        port: u16,
+        at: *mut usize,
+        start: *mut usize,
+        len: *mut usize,
+    ) -> bool;
 }
 
 /// What a call gives back beside the slices.
@@ -84,4 +122,62 @@ pub fn read_kitti_bits(data: &[u8], bits: &mut [u32], kinds: &mut [u8]) -> Answe
         )
     };
     answer
+}
+
+/// What a call by rank gives back.
+#[derive(Clone, Copy, Debug, PartialEq, Eq)]
+pub struct Ranked {
+    pub number: u8,
+    pub start: usize,
+    pub len: usize,
+}
+
+/// What a step gives back, with `at` as the call leaves it.
+#[derive(Clone, Copy, Debug, PartialEq, Eq)]
+pub struct Stepped {
+    pub found: bool,
+    pub at: usize,
+    pub start: usize,
+    pub len: usize,
+}
+
+/// `start` and `len` hold these before a call.
+const NO_START: usize = 6_666_666_666_666_666_666;
+const NO_LEN: usize = 4_444_444_444_444_444_444;
+
+/// A call by rank. Without `savefile` the reading is the usual one.
+pub fn payload_place(data: &[u8], savefile: Option<bool>, port: u16, rank: usize) -> Ranked {
+    let (mut start, mut len) = (NO_START, NO_LEN);
+    let (bytes, bytes_len) = (data.as_ptr(), data.len());
+    // SAFETY: pointer and length come from one slice, and the other pointers from locals.
+    let number = unsafe {
+        match savefile {
+            Some(savefile) => {
+                lidar_payload_place_as(bytes, bytes_len, savefile, port, rank, &mut start, &mut len)
+            }
+            None => lidar_payload_place(bytes, bytes_len, port, rank, &mut start, &mut len),
+        }
+    };
+    Ranked { number, start, len }
+}
+
+/// A step from `at` on. Without `savefile` the reading is the usual one.
+pub fn next_payload(data: &[u8], savefile: Option<bool>, port: u16, mut at: usize) -> Stepped {
+    let (mut start, mut len) = (NO_START, NO_LEN);
+    let (bytes, bytes_len) = (data.as_ptr(), data.len());
+    // SAFETY: as in payload_place.
+    let found = unsafe {
+        match savefile {
+            Some(savefile) => lidar_next_payload_as(
+                bytes, bytes_len, savefile, port, &mut at, &mut start, &mut len,
+            ),
+            None => lidar_next_payload(bytes, bytes_len, port, &mut at, &mut start, &mut len),
+        }
+    };
+    Stepped {
+        found,
+        at,
+        start,
+        len,
+    }
 }

@@ -12,6 +12,23 @@ pub mod registry {
     }
 }
 
-// `compare/run` copies the original here for the build. It is no part of the repository.
-#[path = "../target/lidar.rs"]
+/// Where each payload starts that the original pushes. `compare/run` has it noted here.
+pub mod places {
+    use std::cell::RefCell;
+
+    thread_local! {
+        static STARTS: RefCell<Vec<usize>> = const { RefCell::new(Vec::new()) };
+    }
+
+    pub fn note(start: usize) {
+        STARTS.with_borrow_mut(|starts| starts.push(start));
+    }
+
+    /// Those noted since the last time.
+    pub fn take() -> Vec<usize> {
+        STARTS.take()
+    }
+}
+
+// The original, which the build puts beside this file. It is no part of the repository.
 pub mod lidar;

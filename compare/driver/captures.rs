@@ -1,0 +1,254 @@
+//! Captures: the payloads in each reading, found by rank and by steps.
+
+use crate::capture_files;
+use crate::long::{untouched, TOO_LONG};
+use crate::original::Original;
+use crate::ours::{self, Ranked, Stepped};
+use crate::random::Random;
+use crate::tally::Tally;
+use crate::words::{self, Reading};
+use std::ops::Range;
+
+/// The Rust's reading, named and as the usual one, against the original.
+pub fn compare(original: &Original, seed: u64, files: u64) -> Tally {
+    let mut tally = Tally::new("captures", seed);
+    for_each_file(
+        &mut tally,
+        seed,
+        files,
+        Reading::Rust,
+        |data, ports, random| {
+            let told = original.payloads(data, ports);
+            for (&port, told) in std::iter::zip(ports, told) {
+                let expected = match &told {
+                    Err(number) => Expected {
+                        number: *number,
+                        places: Vec::new(),
+                    },
+                    Ok(payloads) => Expected {
+                        number: 0,
+                        places: payloads
+                            .iter()
+                            .map(|p| p.start..p.start + p.bytes.len())
+                            .collect(),
+                    },
+                };
+                for savefile in [Some(false), None] {
+                    let call = Call {
+                        data,
+                        reading: Reading::Rust,
+                        savefile,
+                        port,
+                    };
+                    call.hold(&expected, random)?;
+                }
+                // By place they are the same; by contents too?
+                for payload in told.iter().flatten() {
+                    if data[payload.start..][..payload.bytes.len()] != payload.bytes {
+                        return Err(format!("the bytes from {} on differ", payload.start));
+                    }
+                }
+            }
+            Ok(())
+        },
+    );
+    tally.beside("the lengths around refusal 1", long_data(Reading::Rust));
+    tally
+}
+
+/// The savefile reading, which the original does not have, against the paper's words.
+pub fn compare_savefile(seed: u64, files: u64) -> Tally {
+    let mut tally = Tally::new("captures as savefiles", seed);
+    for_each_file(
+        &mut tally,
+        seed,
+        files,
+        Reading::Savefile,
+        |data, ports, random| {
+            for &port in ports {
+                let expected = Expected {
+                    number: words::number(data),
+                    places: words::payloads(data, Reading::Savefile, port, 0),
+                };
+                let call = Call {
+                    data,
+                    reading: Reading::Savefile,
+                    savefile: Some(true),
+                    port,
+                };
+                call.hold(&expected, random)?;
+            }
+            Ok(())
+        },
+    );
+    tally.beside("the lengths around refusal 1", long_data(Reading::Savefile));
+    tally
+}
+
+fn for_each_file(
+    tally: &mut Tally,
+    seed: u64,
+    files: u64,
+    reading: Reading,
+    compare: impl Fn(&[u8], &[u16], &mut Random) -> Result<(), String>,
+) {
+    for case in 0..files {
+        let capture = capture_files::file(&mut Random::of_case(seed, case), case, reading);
+        tally.file(case, &capture.data, |data| {
+            // A generator of its own, so that a shorter file is tried in the same way.
+            let mut random = Random::of_case(!seed, case);
+            // A file's bytes may start at any address.
+            let start = random.below(16);
+            let placed = [&vec![0xEE; start], data].concat();
+            compare(&placed[start..], &capture.ports, &mut random)
+        });
+    }
+}
+
+/// What a capture means for a port.
+struct Expected {
+    number: u8,
+    places: Vec<Range<usize>>,
+}
+
+struct Call<'a> {
+    data: &'a [u8],
+    reading: Reading,
+    /// How the reading is named, if it is.
+    savefile: Option<bool>,
+    port: u16,
+}
+
+impl Call<'_> {
+    fn hold(&self, expected: &Expected, random: &mut Random) -> Result<(), String> {
+        self.hold_ranks(expected, random)
+            .and_then(|()| self.hold_steps(expected, random))
+            .and_then(|()| self.hold_any_step(random))
+            .map_err(|what| {
+                let reading = match self.savefile {
+                    Some(savefile) => format!("savefile {savefile}"),
+                    None => "the usual reading".to_string(),
+                };
+                format!("port {}, {reading}: {what}", self.port)
+            })
+    }
+
+    /// Some ranks, the last, the one beyond it, and some far beyond.
+    fn hold_ranks(&self, expected: &Expected, random: &mut Random) -> Result<(), String> {
+        let count = expected.places.len();
+        let mut ranks: Vec<usize> = (0..count.min(4)).collect();
+        if count > 4 {
+            ranks.extend([random.below(count), random.below(count), count - 1]);
+        }
+        ranks.extend([count, count + 1 + random.below(9), usize::MAX]);
+        for rank in ranks {
+            let place = expected.places.get(rank).cloned().unwrap_or(0..0);
+            let want = Ranked {
+                number: expected.number,
+                start: place.start,
+                len: place.len(),
+            };
+            let got = ours::payload_place(self.data, self.savefile, self.port, rank);
+            if got != want {
+                return Err(format!("rank {rank} gives {got:?} and not {want:?}"));
+            }
+        }
+        Ok(())
+    }
+
+    /// From the first payload to the last, and once more at the end.
+    fn hold_steps(&self, expected: &Expected, random: &mut Random) -> Result<(), String> {
+        // Anything in the file header means the first record.
+        let mut at = random.pick(&[0, 0, 1, 8, 16, 23, 24]);
+        for (rank, place) in expected.places.iter().enumerate() {
+            // A payload runs to its record's end.
+            let want = Stepped {
+                found: true,
+                at: place.end,
+                start: place.start,
+                len: place.len(),
+            };
+            self.hold_step(at, want)
+                .map_err(|what| format!("payload {rank}: {what}"))?;
+            at = want.at;
+        }
+        for _ in 0..2 {
+            self.hold_step(at, none_from(at))
+                .map_err(|what| format!("behind the last payload: {what}"))?;
+        }
+        Ok(())
+    }
+
+    /// From a place that need not be a record's, against the paper's words.
+    fn hold_any_step(&self, random: &mut Random) -> Result<(), String> {
+        let at = match random.below(4) {
+            0 => usize::MAX - random.below(40),
+            1 => self.data.len().saturating_sub(random.below(70)),
+            _ => random.below(self.data.len() + 40),
+        };
+        let places = words::payloads(self.data, self.reading, self.port, at);
+        let want = places.first().map_or(none_from(at), |place| Stepped {
+            found: true,
+            at: place.end,
+            start: place.start,
+            len: place.len(),
+        });
+        self.hold_step(at, want)
+    }
+
+    fn hold_step(&self, at: usize, want: Stepped) -> Result<(), String> {
+        let got = ours::next_payload(self.data, self.savefile, self.port, at);
+        if got == want {
+            Ok(())
+        } else {
+            Err(format!("the step from {at} gives {got:?} and not {want:?}"))
+        }
+    }
+}
+
+fn none_from(at: usize) -> Stepped {
+    Stepped {
+        found: false,
+        at,
+        start: 0,
+        len: 0,
+    }
+}
+
+/// One record as long as the data allows, around refusal 1. The original has no such limit.
+fn long_data(reading: Reading) -> Result<(), String> {
+    let Some(data) = untouched(TOO_LONG + 1) else {
+        eprintln!("captures: no {TOO_LONG} bytes to be had, so refusal 1 is left out");
+        return Ok(());
+    };
+    let most_first = [0xa1, 0xb2, 0xc3, 0xd4];
+    let length = (TOO_LONG - 1 - 40) as u32;
+    let (savefile, stated) = match reading {
+        Reading::Rust => (Some(false), length.to_le_bytes()),
+        Reading::Savefile => (Some(true), length.to_be_bytes()),
+    };
+    data[..4].copy_from_slice(&most_first);
+    data[32..36].copy_from_slice(&stated);
+    data[40 + 12..40 + 14].copy_from_slice(&[0x08, 0x00]);
+    data[40 + 14] = 0x45;
+    data[40 + 23] = 17;
+    for (length, number, places) in [
+        (TOO_LONG - 2, 0, vec![]),
+        (TOO_LONG - 1, 0, vec![82..TOO_LONG - 1]),
+        (TOO_LONG, 1, vec![]),
+        (TOO_LONG + 1, 1, vec![]),
+    ] {
+        let call = Call {
+            data: &data[..length],
+            reading,
+            savefile,
+            port: 0,
+        };
+        let expected = Expected { number, places };
+        let mut random = Random::of_case(0, 0);
+        call.hold_ranks(&expected, &mut random)
+            .and_then(|()| call.hold_steps(&expected, &mut random))
+            .map_err(|what| format!("{length} bytes: {what}"))?;
+    }
+    Ok(())
+}

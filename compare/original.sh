@@ -1,0 +1,46 @@
+# Builds the original lidar.rs as the crate threecrate_io, with stand-ins for what it needs beside std.
+# For compare/run and bench/run, which read this from the repository's root and set lidar_rs and target.
+# lidar.rs itself is no part of the repository.
+
+DEFAULT_RS=../shared/docs/src/threecrate-io/src/lidar.rs
+
+# What is missing for a build, in words; nothing where all is there.
+missing() {
+    if ! command -v rustc >/dev/null; then
+        echo "there is no rustc"
+    elif ! command -v cc >/dev/null; then
+        echo "there is no cc, by which rustc links"
+    elif [ ! -f "$lidar_rs" ]; then
+        echo "there is no lidar.rs at $lidar_rs (LIDAR_RS names another place)"
+    elif [ "$(uname -m)" != x86_64 ]; then
+        echo "the static library links on x86-64 only"
+    fi
+}
+
+# 01-scope.md: the Rust as a release build decides, so sums wrap and nothing is asserted.
+build() {
+    rustc --edition 2021 -O -C overflow-checks=off -C debug-assertions=off \
+        -L dependency="$target" --out-dir "$target" "$@"
+}
+
+# Replaces a text of the original, which must be there exactly once.
+replace() {
+    local before=${original%%"$1"*} after=${original#*"$1"}
+    if [ "$before$1$after" != "$original" ] || [[ $after == *"$1"* ]]; then
+        printf 'the original does not have this exactly once: %s\n' "$1" >&2
+        exit 1
+    fi
+    original=$before$2$after
+}
+
+# Builds the crate threecrate_io from $original. Its stand-in finds the original beside itself.
+build_original() {
+    printf '%s\n' "$original" >"$target/lidar.rs"
+    cp -f compare/stand-ins/threecrate_io.rs "$target/"
+    build --crate-type rlib --crate-name byteorder compare/stand-ins/byteorder.rs
+    build --crate-type rlib --crate-name threecrate_core compare/stand-ins/threecrate_core.rs
+    # Warnings about the original are not ours to act on.
+    build --crate-type rlib --crate-name threecrate_io --cap-lints allow \
+        --extern byteorder="$target/libbyteorder.rlib" \
+        --extern threecrate_core="$target/libthreecrate_core.rlib" "$target/threecrate_io.rs"
+}
