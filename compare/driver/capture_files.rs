@@ -113,7 +113,7 @@ fn any(random: &mut Random, reading: Reading) -> Capture {
         let port = random.pick(&ports);
         let bytes = Frame::any(random, port).bytes(random);
         let stated = if random.below(16) < wrong_lengths {
-            wrong_length(random, bytes.len())
+            maker.wrong_length(random, bytes.len())
         } else {
             bytes.len() as u32
         };
@@ -143,23 +143,12 @@ fn damage(random: &mut Random, data: &mut [u8], kept: usize) {
     }
 }
 
-/// Near the true length, past every file's end, and so large that a sum of 32 bits wraps.
-fn wrong_length(random: &mut Random, length: usize) -> u32 {
-    let near = random.below(64) as u32;
-    match random.below(6) {
-        0 => (length as u32).saturating_sub(1 + near % 20),
-        1 => length as u32 + 1 + near % 20,
-        2 => length as u32 + 16,
-        3 => u32::MAX - near,
-        4 => 0x8000_0000 - 32 + near,
-        _ => random.next() as u32,
-    }
-}
-
 /// Writes a file in the byte order that a reading takes its magic for.
 struct Maker {
     data: Vec<u8>,
     big_endian: bool,
+    /// Where the records' headers stand.
+    headers: Vec<usize>,
 }
 
 impl Maker {
@@ -170,10 +159,12 @@ impl Maker {
         Maker {
             data,
             big_endian: least_first == (reading == Reading::Rust),
+            headers: Vec::new(),
         }
     }
 
     fn record(&mut self, random: &mut Random, stated: u32, bytes: &[u8]) {
+        self.headers.push(self.data.len());
         // The time and the original length are never looked at.
         self.data.extend(random.next().to_le_bytes());
         self.data.extend(if self.big_endian {
@@ -183,6 +174,24 @@ impl Maker {
         });
         self.data.extend((random.next() as u32).to_le_bytes());
         self.data.extend(bytes);
+    }
+
+    /// Near the true length, past every file's end, and so large that a sum of 32 bits wraps.
+    fn wrong_length(&self, random: &mut Random, length: usize) -> u32 {
+        let near = random.below(64) as u32;
+        match random.below(7) {
+            0 => (length as u32).saturating_sub(1 + near % 20),
+            1 => length as u32 + 1 + near % 20,
+            2 => length as u32 + 16,
+            3 => u32::MAX - near,
+            4 => 0x8000_0000 - 32 + near,
+            // Back to a record before, for a sum that wraps.
+            5 if !self.headers.is_empty() => {
+                let back = self.data.len() + 16 - random.pick(&self.headers);
+                (back as u32).wrapping_neg()
+            }
+            _ => random.next() as u32,
+        }
     }
 }
 
@@ -216,9 +225,10 @@ impl Frame {
             0..=9 => vec![0x0800],
             10..=15 => vec![0x8100, 0x0800],
             16 => vec![0x8100, 0x8100, 0x0800],
-            17 => vec![random.pick(&[0x86dd, 0x0806, 0x88a8, 0x0801, 0x0008, 0x0081])],
+            17 => vec![random.pick(&[0x86dd, 0x0806, 0x0801, 0x0008])],
             18 => vec![0x8100, random.pick(&[0x86dd, 0x0806, 0x0801, 0x0008])],
-            _ => vec![random.next() as u16, 0x0800],
+            // Other tags, which are none here.
+            _ => vec![random.pick(&[0x88a8, 0x9100, 0x8101, 0x0081]), 0x0800],
         };
         if random.below(8) == 0 {
             frame.version = random.below(16) as u8;
@@ -260,6 +270,11 @@ impl Frame {
         }
         bytes[ip] = self.version << 4 | self.ihl;
         bytes[udp + 2..udp + 4].copy_from_slice(&self.port.to_be_bytes());
+        // A true or a short length, which nobody looks at.
+        if self.ihl >= 5 {
+            let length = random.below(bytes.len() - udp + 1) as u16;
+            bytes[udp + 4..udp + 6].copy_from_slice(&length.to_be_bytes());
+        }
         bytes.truncate(self.length);
         if self.damaged {
             damage(random, &mut bytes, 0);

@@ -97,9 +97,10 @@ fn for_each_file(
         tally.file(case, &capture.data, |data| {
             // A generator of its own, so that a shorter file is tried in the same way.
             let mut random = Random::of_case(!seed, case);
-            // A file's bytes may start at any address.
-            let start = random.below(16);
-            let placed = [&vec![0xEE; start], data].concat();
+            // A file's bytes may start at any address. A walk whose place wraps around would read what
+            // lies before them, and zeros are records that lead back into the data.
+            let start = 32 + random.below(16);
+            let placed = [&vec![0; start], data].concat();
             compare(&placed[start..], &capture.ports, &mut random)
         });
     }
