@@ -1,0 +1,189 @@
+//! Times going through all payloads of a capture. `bench/run` builds and runs it.
+//!
+//! Arguments: a directory for the capture, the number of rounds.
+
+use std::fs;
+use std::hint::black_box;
+use std::path::Path;
+use std::time::Instant;
+use threecrate_io::lidar::payloads_of;
+
+const PORT: u16 = 2368;
+const SIZE: usize = 64_000_000;
+
+extern "C" {
+    fn lidar_next_payload_as(
+        data: *const u8,
+        data_len: usize,
+        savefile: bool,
+        port: u16,
+        at: *mut usize,
+        start: *mut usize,
+        len: *mut usize,
+    ) -> bool;
+
+    #[cfg(libpcap)]
+    fn libpcap_sum(
+        path: *const std::ffi::c_char,
+        port: u16,
+        count: *mut u64,
+        sum: *mut u64,
+    ) -> std::ffi::c_int;
+}
+
+/// How many payloads there are, and the sum of their lengths and first bytes: every way has to find the
+/// same, and to look at each payload.
+#[derive(Clone, Copy, Default, Debug, PartialEq)]
+struct Seen {
+    count: u64,
+    sum: u64,
+}
+
+impl Seen {
+    fn add(&mut self, payload: &[u8]) {
+        self.count += 1;
+        self.sum += payload.len() as u64 + u64::from(payload[0]);
+    }
+}
+
+fn main() {
+    let arguments: Vec<String> = std::env::args().skip(1).collect();
+    let [directory, rounds] = &arguments[..] else {
+        panic!("a directory and the number of rounds");
+    };
+    let file = Path::new(directory).join("capture");
+    let rounds = rounds.parse().expect("the number of rounds");
+    // What a Velodyne sends, and small payloads, where the records' headers count for more.
+    for payload in [1206, 64] {
+        bench(&file, rounds, payload);
+    }
+}
+
+fn bench(file: &Path, rounds: usize, payload: usize) {
+    let savefile = capture(payload, [0xd4, 0xc3, 0xb2, 0xa1]);
+    // The same lengths, with the magic by which the Rust takes them for little-endian.
+    let for_rust = capture(payload, [0xa1, 0xb2, 0xc3, 0xd4]);
+    fs::write(file, &savefile).expect("the capture could not be written");
+
+    let seen = ours(&for_rust, false);
+    let mut ways: Vec<(&str, Box<dyn Fn() -> Seen + '_>)> = vec![
+        (
+            "our steps, in the Rust's reading",
+            Box::new(|| ours(&for_rust, false)),
+        ),
+        (
+            "the Rust, from bytes (it copies)",
+            Box::new(|| rust(&for_rust)),
+        ),
+        (
+            "our steps, in the savefile reading",
+            Box::new(|| ours(&savefile, true)),
+        ),
+    ];
+    #[cfg(libpcap)]
+    ways.push(("libpcap, from a file in memory", Box::new(|| libpcap(file))));
+    ways.push((
+        "reading that file, and no more",
+        Box::new(|| {
+            black_box(fs::read(file).expect("the capture could not be read"));
+            seen
+        }),
+    ));
+
+    let mut times = vec![Vec::new(); ways.len()];
+    for _ in 0..rounds {
+        for ((_, way), times) in ways.iter().zip(&mut times) {
+            let start = Instant::now();
+            let found = black_box(way());
+            times.push(start.elapsed().as_secs_f64());
+            assert_eq!(found, seen);
+        }
+    }
+    let megabytes = savefile.len() as f64 / 1e6;
+    println!(
+        "{megabytes:.0} MB, {} payloads of {payload} bytes, medians of {rounds} rounds",
+        seen.count
+    );
+    println!("{:36} {:>8} {:>8} {:>10}", "", "ms", "MB/s", "ours = 1");
+    let median = |times: &Vec<f64>| {
+        let mut times = times.clone();
+        times.sort_by(f64::total_cmp);
+        times[times.len() / 2]
+    };
+    let ours = median(&times[0]);
+    for ((name, _), times) in ways.iter().zip(&times) {
+        let time = median(times);
+        println!(
+            "{name:36} {:8.2} {:8.0} {:10.2}",
+            time * 1e3,
+            megabytes / time,
+            time / ours
+        );
+    }
+}
+
+/// A capture of one kind of record, with little-endian lengths.
+fn capture(payload: usize, magic: [u8; 4]) -> Vec<u8> {
+    let mut data = Vec::with_capacity(SIZE);
+    // Version 2.4, no zone, the longest record, Ethernet.
+    data.extend(magic);
+    data.extend([
+        2, 0, 4, 0, 0, 0, 0, 0, 0, 0, 0, 0, 0xff, 0xff, 0, 0, 1, 0, 0, 0,
+    ]);
+    let length = 42 + payload;
+    let mut number = 0u32;
+    while data.len() + 16 + length <= SIZE {
+        number += 1;
+        data.extend(number.to_le_bytes());
+        data.extend([0; 4]);
+        data.extend((length as u32).to_le_bytes());
+        data.extend((length as u32).to_le_bytes());
+        let frame = data.len();
+        data.resize(frame + length, number as u8);
+        let record = &mut data[frame..];
+        record[12..14].copy_from_slice(&[0x08, 0x00]);
+        record[14] = 0x45;
+        record[23] = 17;
+        record[36..38].copy_from_slice(&PORT.to_be_bytes());
+        record[38..40].copy_from_slice(&(payload as u16 + 8).to_be_bytes());
+    }
+    data
+}
+
+fn ours(data: &[u8], savefile: bool) -> Seen {
+    let mut seen = Seen::default();
+    let (mut at, mut start, mut len) = (0, 0, 0);
+    // SAFETY: pointer and length come from one slice, and the other pointers from locals.
+    while unsafe {
+        lidar_next_payload_as(
+            data.as_ptr(),
+            data.len(),
+            savefile,
+            PORT,
+            &mut at,
+            &mut start,
+            &mut len,
+        )
+    } {
+        seen.add(&data[start..start + len]);
+    }
+    seen
+}
+
+fn rust(data: &[u8]) -> Seen {
+    let mut seen = Seen::default();
+    for payload in payloads_of(data, PORT).expect("a good capture") {
+        seen.add(&payload);
+    }
+    seen
+}
+
+#[cfg(libpcap)]
+fn libpcap(file: &Path) -> Seen {
+    let path = std::ffi::CString::new(file.to_str().expect("a plain path")).expect("a plain path");
+    let mut seen = Seen::default();
+    // SAFETY: the path ends in a zero byte, and the other pointers are from a local.
+    let opened = unsafe { libpcap_sum(path.as_ptr(), PORT, &mut seen.count, &mut seen.sum) };
+    assert_eq!(opened, 1, "libpcap cannot open the capture");
+    seen
+}
