@@ -20,18 +20,13 @@ pub fn compare(original: &Original, seed: u64, files: u64) -> Tally {
         |data, ports, random| {
             let told = original.payloads(data, ports);
             for (&port, told) in std::iter::zip(ports, told) {
-                let expected = match &told {
-                    Err(number) => Expected {
-                        number: *number,
-                        places: Vec::new(),
-                    },
-                    Ok(payloads) => Expected {
-                        number: 0,
-                        places: payloads
-                            .iter()
-                            .map(|p| p.start..p.start + p.bytes.len())
-                            .collect(),
-                    },
+                let payloads = told.as_deref().unwrap_or(&[]);
+                let expected = Expected {
+                    number: told.as_ref().err().copied().unwrap_or(0),
+                    places: payloads
+                        .iter()
+                        .map(|p| p.start..p.start + p.bytes.len())
+                        .collect(),
                 };
                 for savefile in [Some(false), None] {
                     let call = Call {
@@ -42,8 +37,8 @@ pub fn compare(original: &Original, seed: u64, files: u64) -> Tally {
                     };
                     call.hold(&expected, random)?;
                 }
-                // By place they are the same; by contents too?
-                for payload in told.iter().flatten() {
+                // Ours stand in the same places, where the data has to hold what the original copied.
+                for payload in payloads {
                     if data[payload.start..][..payload.bytes.len()] != payload.bytes {
                         return Err(format!("the bytes from {} on differ", payload.start));
                     }
