@@ -3,7 +3,15 @@ use Prim.Native.Nat.{ℕ}
 use mathlib.Core.List.{List, map, flatMap}
 use lib.Ieee.{binary32, ofBits, toBits}
 use Rattle.fields.specs.Number.{unsignedAt}
-use Rattle.points.specs.ReadInto.{Outcome, mapOutcome, over, readInto}
+use Rattle.points.specs.ReadInto.{Outcome, firstRefusal, mapOutcome, over, readInto}
+use Rattle.capture.specs.declared.reading.Reading.{Reading}
+use Rattle.capture.specs.declared.walk.Place.{Place}
+use Rattle.capture.specs.Ethernet.{etherType, ipStart}
+use Rattle.capture.specs.Ipv4.{version, ihl, protocol, udpStart}
+use Rattle.capture.specs.Udp.{destinationPort, payloadStart}
+use Rattle.capture.specs.Record.{verdict}
+use Rattle.capture.specs.Savefile
+use Rattle.capture.specs.Payloads.{opening, placesFrom, bytesAt}
 use Rattle.kitti.specs.Kitti
 
 -- How a reader of float records lays numbers: as values into a slice of f32, or as their patterns into a slice of u32.
@@ -14,14 +22,31 @@ pub data Form : Type 0 where
 pub data Call : Type 0 where
   -- The file, and what the slices of numbers and of kinds hold at entry.
   kitti : Form → List ℕ → List ℕ → List ℕ → Call
+  -- Going through the payloads of a capture: the reading, the port, of which 0 is every one, and the file.
+  capture : Reading → ℕ → List ℕ → Call
+  -- The length that the first record of a capture states: the reading, and the file.
+  firstLength : Reading → List ℕ → Call
+
+-- A payload: where the header of its record stands, where it starts, and its bytes.
+pub data Payload : Type 0 where
+  payload : ℕ → ℕ → List ℕ → Payload
+
+abbrev pub payloadAt : List ℕ → Place → Payload
+payloadAt bytes p = payload (p .header) (p .start) (bytesAt bytes p)
 
 -- What a call tells.
 pub data Told : Type 0 where
   -- The number, the points, the frames, and what the slices of numbers, again by patterns, and of kinds then hold.
   reading : Outcome ℕ → Told
+  -- The number, and the payloads in order.
+  payloads : ℕ → List Payload → Told
+  -- The length that a record states.
+  lengthStated : ℕ → Told
 
 -- The unfolding line names all that these definitions compute by, so that a proof unfolds `tell` alone.
 unfoldable pub tell : Call → Told
-unfolding flatMap ofBits toBits unsignedAt over readInto Kitti.checks Kitti.points
+unfolding flatMap ofBits toBits unsignedAt over firstRefusal readInto Kitti.checks Kitti.points Savefile.bigEndian Savefile.checks etherType ipStart version ihl protocol udpStart destinationPort payloadStart verdict opening placesFrom
 tell (kitti byValue bytes numbers kinds) = reading (mapOutcome (toBits binary32) (Kitti.readKitti bytes (map (ofBits binary32) numbers) kinds))
 tell (kitti byPattern bytes numbers kinds) = reading (Kitti.readKittiBits bytes numbers kinds)
+tell (capture r port bytes) = payloads (opening r port bytes .0) (map (payloadAt bytes) (flatMap (λ cursor. placesFrom cursor bytes) (opening r port bytes .1)))
+tell (firstLength r bytes) = lengthStated (Savefile.capturedAt (Savefile.orderOf (Savefile.bigEndian r bytes)) bytes 24)

@@ -1,8 +1,9 @@
 -- All worked cases, as one list.
-use mathlib.Core.List.{List}
+use mathlib.Core.List.{List, _++_}
 use Rattle.claims.specs.Row.{Row}
+use Rattle.claims.specs.Capture.{captureRows}
 use Rattle.claims.specs.Kitti.{kittiRows}
 
 unfoldable pub rows : List Row
-unfolding kittiRows
-rows = kittiRows
+unfolding captureRows kittiRows
+rows = captureRows ++ kittiRows
