@@ -35,7 +35,7 @@ abbrev pub orderOf : Bool → ByteOrder
 orderOf true = big
 orderOf false = little
 
--- 3: the data is below 24 bytes; 4: the magic is none of the four.
+-- 3: the data is below 24 bytes; 4: the magic is none of the four. Both readings have the same checks; a stricter reading may have more.
 unfoldable pub fileChecks : Reading → List ℕ → List Check
 unfolding leastFirstMagic mostFirstMagic
 fileChecks reading bytes = (3, ltb (length bytes) 24) ∷ (4, not (leastFirstMagic bytes || mostFirstMagic bytes)) ∷ []
@@ -54,7 +54,7 @@ pub record RecordAt : Type 0 where
 abbrev pub capturedAt : ByteOrder → List ℕ → ℕ → ℕ
 capturedAt order bytes at = unsignedAt order 4 bytes (at + 8)
 
--- The records from a place on. A record that runs past the data ends the walk, and so does a header that does. The bound on their number is not felt: by the
+-- The records from a place on. A record that runs past the data ends the walk, and so does a header that does, whatever length would be read there. The bound on their number is not felt: by the
 -- law `enough`, every bound from the data's length on gives the same records.
 unfoldable pub recordsFrom : ℕ → ByteOrder → List ℕ → ℕ → List RecordAt
 recordsFrom zero order bytes at = []

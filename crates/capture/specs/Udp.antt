@@ -1,4 +1,4 @@
--- RFC 768: a header of eight bytes, the destination port at 2. The payload follows it.
+-- RFC 768: a header of eight bytes, the destination port at 2. The payload follows it, to the record's end: neither reading looks at the length or the checksum.
 use Prim.Native.Nat.{ℕ, _+_}
 use mathlib.Core.List.{List}
 use Rattle.fields.specs.Number.{big, unsignedAt}

@@ -20,7 +20,7 @@ unfoldable pub leastFirst : ByteOrder → List ℕ → List ℕ
 leastFirst little bs = bs
 leastFirst big bs = reverse bs
 
--- The number in the k bytes of s from off on. It is asked only where they lie inside s.
+-- The number in the k bytes of s from off on. It tells something only where they lie inside s.
 unfoldable pub unsignedAt : ByteOrder → ℕ → List ℕ → ℕ → ℕ
 unfolding leastFirst
 unsignedAt o k s off = value (leastFirst o (take k (drop off s)))
