@@ -1,0 +1,13 @@
+-- `ouster::OusterSettings::os1_64_altitudes` meets its contract: the bits of each literal are the definition's decimal, rounded. Assumes nothing.
+use mathlib.Core.Path.{refl}
+use lib.Ieee.{round, ofBits}
+use Rattle.ouster.specs.Settings.{above, below, os1-64-elevations}
+use Rattle.ouster.proofs.settings.OusterSettings.os1_64_altitudes.Statement.{statement}
+use Rattle.ouster.proofs.settings.OusterSettings.os1_64_altitudes.Tie as tie
+
+returns : tie.Need-returns
+unfolding os1-64-elevations above below round ofBits
+returns c = refl
+
+pub os1-64-altitudes-spec : {M : Type 1} → statement M
+os1-64-altitudes-spec = tie.close (tie.spec returns)

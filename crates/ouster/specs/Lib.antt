@@ -1,0 +1,2 @@
+-- What an Ouster packet means.
+pub mod Settings
