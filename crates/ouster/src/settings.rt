@@ -3,6 +3,60 @@
 ghost use mathlib.Core.Path.{_≡_};
 ghost use Rattle.ouster.specs.Settings.{os1-64, os-128, os1-64-elevations, os-128-elevations};
 
+pub struct OusterSettings {
+    // Azimuth columns in a packet: 1 to 64.
+    pub columns_per_packet: usize,
+    // Beams, which are the channels of a column: 16, 32, 64 or 128.
+    pub pixels_per_column: usize,
+    // The destination port of the packets; 0 asks for every port.
+    pub lidar_port: u16,
+}
+
+impl OusterSettings {
+    pub const LIDAR_PORT: u16 = 7502;
+
+    pub const COLUMNS_PER_PACKET: usize = 16;
+
+    pub fn os1_64() -> Self
+        ensures { λ r. ⌜ r ≡ os1-64 ⌝ }
+    {
+        Self {
+            columns_per_packet: Self::COLUMNS_PER_PACKET,
+            pixels_per_column: 64,
+            lidar_port: Self::LIDAR_PORT,
+        }
+    }
+
+    pub fn os_128() -> Self
+        ensures { λ r. ⌜ r ≡ os-128 ⌝ }
+    {
+        Self {
+            columns_per_packet: Self::COLUMNS_PER_PACKET,
+            pixels_per_column: 128,
+            lidar_port: Self::LIDAR_PORT,
+        }
+    }
+
+    // The elevation of each beam, in degrees, from the top down.
+    pub fn os1_64_altitudes() -> [f32; 64]
+        ensures { λ r. ⌜ r ≡ os1-64-elevations ⌝ }
+    {
+        OS1_64_ALTITUDES
+    }
+
+    pub fn os_128_altitudes() -> [f32; 128]
+        ensures { λ r. ⌜ r ≡ os-128-elevations ⌝ }
+    {
+        let mut altitudes = [0.0; 128];
+        let mut i: u16 = 0;
+        while i < 128 {
+            altitudes[i as usize] = 22.5 - (i as f32 / 127.0) * 45.0;
+            i += 1;
+        }
+        altitudes
+    }
+}
+
 const OS1_64_ALTITUDES: [f32; 64] = [
     16.611,
     16.084,
@@ -69,57 +123,3 @@ const OS1_64_ALTITUDES: [f32; 64] = [
     -16.084,
     -16.611,
 ];
-
-pub struct OusterSettings {
-    // Azimuth columns in a packet: 1 to 64.
-    pub columns_per_packet: usize,
-    // Beams, which are the channels of a column: 16, 32, 64 or 128.
-    pub pixels_per_column: usize,
-    // The destination port of the packets; 0 asks for every port.
-    pub lidar_port: u16,
-}
-
-impl OusterSettings {
-    pub const LIDAR_PORT: u16 = 7502;
-
-    pub const COLUMNS_PER_PACKET: usize = 16;
-
-    pub fn os1_64() -> Self
-        ensures { λ r. ⌜ r ≡ os1-64 ⌝ }
-    {
-        Self {
-            columns_per_packet: Self::COLUMNS_PER_PACKET,
-            pixels_per_column: 64,
-            lidar_port: Self::LIDAR_PORT,
-        }
-    }
-
-    pub fn os_128() -> Self
-        ensures { λ r. ⌜ r ≡ os-128 ⌝ }
-    {
-        Self {
-            columns_per_packet: Self::COLUMNS_PER_PACKET,
-            pixels_per_column: 128,
-            lidar_port: Self::LIDAR_PORT,
-        }
-    }
-
-    // The elevation of each beam, in degrees, from the top down.
-    pub fn os1_64_altitudes() -> [f32; 64]
-        ensures { λ r. ⌜ r ≡ os1-64-elevations ⌝ }
-    {
-        OS1_64_ALTITUDES
-    }
-
-    pub fn os_128_altitudes() -> [f32; 128]
-        ensures { λ r. ⌜ r ≡ os-128-elevations ⌝ }
-    {
-        let mut altitudes = [0.0; 128];
-        let mut i: u16 = 0;
-        while i < 128 {
-            altitudes[i as usize] = 22.5 - (i as f32 / 127.0) * 45.0;
-            i += 1;
-        }
-        altitudes
-    }
-}
