@@ -1,7 +1,7 @@
 // What a recording was made with, and the made-ready settings of two sensors.
 
 ghost use mathlib.Core.Path.{_≡_};
-ghost use Rattle.ouster.specs.Settings.{os1-64, os-128, os1-64-elevations, os-128-elevations};
+ghost use Rattle.ouster.specs.Settings.{isBeamCount, areBad, os1-64, os-128, os1-64-elevations, os-128-elevations};
 
 pub struct OusterSettings {
     // Azimuth columns in a packet: 1 to 64.
@@ -16,6 +16,24 @@ impl OusterSettings {
     pub const LIDAR_PORT: u16 = 7502;
 
     pub const COLUMNS_PER_PACKET: usize = 16;
+
+    // Refusal 2, where so many elevations are lent.
+    pub(crate) fn are_bad(self, altitudes: usize) -> bool
+        ensures { λ r. ⌜ r ≡ areBad self altitudes ⌝ }
+    {
+        let columns = self.columns_per_packet;
+        let beams = self.pixels_per_column;
+        if !is_beam_count(beams) {
+            return true;
+        }
+        if columns < 1 {
+            return true;
+        }
+        if 64 < columns {
+            return true;
+        }
+        altitudes < beams
+    }
 
     pub fn os1_64() -> Self
         ensures { λ r. ⌜ r ≡ os1-64 ⌝ }
@@ -54,6 +72,15 @@ impl OusterSettings {
             i += 1;
         }
         altitudes
+    }
+}
+
+fn is_beam_count(beams: usize) -> bool
+    ensures { λ r. ⌜ r ≡ isBeamCount beams ⌝ }
+{
+    match beams {
+        16 | 32 | 64 | 128 => true,
+        _ => false,
     }
 }
 
