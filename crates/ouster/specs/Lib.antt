@@ -1,3 +1,4 @@
--- What an Ouster packet means, and the settings that it is read with.
+-- What Ouster packets and captures of them mean, and the settings that they are read with.
+pub mod Ouster
 pub mod Packet
 pub mod Settings

@@ -1,5 +1,5 @@
 -- `ouster::is_beam_count` meets its contract: the arms are the definition's numbers. Assumes nothing.
-use mathlib.Core.Path.{_≡_, sym}
+use mathlib.Core.Path.{sym}
 use mathlib.Core.Logic.{⊎-elim, inl, inr}
 use Rattle.ouster.proofs.Bounds.{none-of-them}
 use Rattle.ouster.proofs.settings.is_beam_count.Statement.{statement}

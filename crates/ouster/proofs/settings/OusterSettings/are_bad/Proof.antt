@@ -1,9 +1,7 @@
 -- `ouster::OusterSettings::are_bad` meets its contract: the tests are the definition's, in its order. Assumes nothing.
-use mathlib.Core.Path.{_≡_, refl, sym, ap, _∙_}
-use mathlib.Core.Bool.{true, false}
 use borrow.Author.Needs.{needs}
 use borrow.Author.Tests.{lt-ltb, le-ltb}
-use Rattle.ouster.specs.Settings.{isBeamCount, areBad}
+use Rattle.ouster.specs.Settings.{areBad}
 use Rattle.ouster.proofs.settings.OusterSettings.are_bad.Statement.{statement}
 use Rattle.ouster.proofs.settings.OusterSettings.are_bad.Tie as tie
 
