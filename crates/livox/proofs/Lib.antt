@@ -1,0 +1,5 @@
+-- The laws of the definitions: what a form's fields are, a package at a place, a frame at a place.
+mod Events
+pub mod Frames
+mod Header
+pub mod Packages
