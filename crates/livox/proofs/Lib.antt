@@ -1,4 +1,6 @@
 -- The laws of the definitions: what a form's fields are, a package at a place, a frame at a place.
+mod Checks
+mod Counts
 mod Events
 pub mod Frames
 mod Header

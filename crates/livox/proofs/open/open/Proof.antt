@@ -1,0 +1,38 @@
+-- `livox::open` meets its contract, form by form. Assumes nothing.
+use Rattle.livox.proofs.Checks.{too-long}
+use borrow.Author.Needs.{needs}
+use Rattle.livox.proofs.open.open.Statement.{statement}
+use Rattle.livox.proofs.open.open.Tie as tie
+
+returns : tie.Need-returns
+returns c = (rw (too-long (c .before .before .args .form) (c .before .before .args .«data» .now) (c .if1 .taken)), tt)
+
+enum-told : tie.Need-enum-told
+enum-told c = search needs
+
+open-lvx-requires : tie.Need-open-lvx-requires
+open-lvx-requires c κs = search needs
+
+enum-told-2 : tie.Need-enum-told-2
+enum-told-2 c = search needs
+
+open-lvx2-requires : tie.Need-open-lvx2-requires
+open-lvx2-requires c κs = search needs
+
+returns-2 : tie.Need-returns-2
+returns-2 c = rw (c .before .enum-told .given .1) (c .open-lvx .ensures)
+
+returns-3 : tie.Need-returns-3
+returns-3 c = rw (c .before .enum-told2 .given .1) (c .open-lvx2 .ensures)
+
+pub open-spec : {M : Type 1} → statement M
+open-spec =
+    tie.close
+    (tie.spec
+    returns
+    enum-told
+    open-lvx-requires
+    enum-told-2
+    open-lvx2-requires
+    returns-2
+    returns-3)
