@@ -5,3 +5,4 @@ mod Events
 pub mod Frames
 mod Header
 pub mod Packages
+pub mod Patterns
