@@ -4,5 +4,6 @@ mod Counts
 mod Events
 pub mod Frames
 mod Header
+mod Laying
 pub mod Packages
 pub mod Patterns
