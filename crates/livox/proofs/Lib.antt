@@ -2,8 +2,12 @@
 mod Checks
 mod Counts
 mod Events
+pub mod Forms
 pub mod Frames
 mod Header
 mod Laying
 pub mod Packages
 pub mod Patterns
+mod Ranks
+mod Reading
+mod Refusals
