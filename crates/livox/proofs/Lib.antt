@@ -1,4 +1,4 @@
--- The laws of the definitions: what a form's fields are, a package at a place, a frame at a place.
+-- The laws of the definitions. Public are those that callers and claims cite; the others serve the proofs of this crate.
 mod Checks
 mod Counts
 mod Events
@@ -6,6 +6,7 @@ pub mod Forms
 pub mod Frames
 mod Header
 mod Laying
+pub mod Laws
 pub mod Packages
 pub mod Patterns
 mod Ranks
