@@ -1,8 +1,7 @@
 -- `livox::has_lvx_signature` meets its contract. The loop's invariant: the bytes passed are those of the mark, so that the rest decides. Assumes nothing.
-use Prim.Native.Nat.{_+_, _-_, _≤_}
+use Prim.Native.Nat.{_-_, _≤_}
 use native.Mathlib.Omega.{arith}
-use mathlib.Core.Path.{_≡_, refl, sym, ap, _∙_}
-use mathlib.Core.Bool.{Bool}
+use mathlib.Core.Path.{_≡_, refl, sym, _∙_}
 use lib.ListN.{drop}
 use Rattle.livox.specs.Livox.{startsWith, lvxMark}
 use Rattle.livox.proofs.Checks.{same-byte, other-byte}

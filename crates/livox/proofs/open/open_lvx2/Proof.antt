@@ -1,7 +1,7 @@
 -- `livox::open_lvx2` meets its contract: each way out is a case of the table of checks. Assumes nothing.
 use Prim.Native.Nat.{_+_, _*_}
 use native.Mathlib.Omega.{arith}
-use mathlib.Core.Path.{_≡_, sym, ap, _∙_}
+use mathlib.Core.Path.{_≡_, sym, _∙_}
 use Rattle.livox.specs.declared.form.Form.the-variants.{Lvx2}
 use Rattle.livox.specs.Livox.{base}
 use Rattle.livox.proofs.Checks.{lvx2-too-short, lvx2-wrong-mark, lvx2-devices-past-end, lvx2-opens}
