@@ -3,11 +3,8 @@ mod Checks
 mod Counts
 mod Events
 pub mod Forms
-pub mod Frames
-mod Header
 mod Laying
 pub mod Laws
-pub mod Packages
 pub mod Patterns
 mod Ranks
 mod Reading

@@ -1,7 +1,4 @@
--- What a Livox file means, from a form's fields up to the points of a file.
-pub mod Form
-pub mod Stored
-pub mod Packages
-pub mod Frames
+-- What a Livox file means.
+pub mod Ranks
 pub mod Livox
 pub mod Steps

@@ -1,7 +1,7 @@
 // The checks of a file's header, which give the base: where its device section ends.
 
 use crate::bytes::u32_at;
-use crate::form::Form;
+use livox_walk::Form;
 use points::Refusal;
 ghost use mathlib.Core.Path.{_≡_};
 ghost use Prim.Native.Nat.{_≤_};

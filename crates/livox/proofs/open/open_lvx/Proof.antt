@@ -3,7 +3,7 @@ use Prim.Native.Nat.{_+_, _*_}
 use native.Mathlib.Omega.{arith}
 use mathlib.Core.Path.{_≡_, sym, _∙_}
 use borrow.Author.Tests.{not-true, not-false}
-use Rattle.livox.specs.declared.form.Form.the-variants.{Lvx}
+use Rattle.livox_walk.specs.declared.form.Form.the-variants.{Lvx}
 use Rattle.livox.specs.Livox.{base}
 use Rattle.livox.proofs.Checks.{lvx-too-short, lvx-wrong-mark, lvx-wrong-code, lvx-header-too-short, lvx-devices-past-end, lvx-opens}
 use borrow.Author.Needs.{needs}

@@ -2,7 +2,7 @@
 use Prim.Native.Nat.{_+_, _*_}
 use native.Mathlib.Omega.{arith}
 use mathlib.Core.Path.{_≡_, sym, _∙_}
-use Rattle.livox.specs.declared.form.Form.the-variants.{Lvx2}
+use Rattle.livox_walk.specs.declared.form.Form.the-variants.{Lvx2}
 use Rattle.livox.specs.Livox.{base}
 use Rattle.livox.proofs.Checks.{lvx2-too-short, lvx2-wrong-mark, lvx2-devices-past-end, lvx2-opens}
 use borrow.Author.Needs.{needs}
