@@ -5,7 +5,7 @@ use mathlib.Core.Bool.{Bool, true, false, cond}
 use mathlib.Core.List.{List, [], _∷_, flatMap, map}
 use lib.Dec.{leb, eqb}
 use lib.ListN.{length, take, drop, getD}
-use Rattle.points.specs.Answer.{refusalNumber}
+use Rattle.answers.specs.Answer.{refusalNumber}
 use Rattle.points.specs.ReadInto.{firstRefusal}
 use Rattle.capture.specs.declared.reading.Reading.{Reading}
 use Rattle.capture.specs.declared.record.Start.{Start}

@@ -1,5 +1,4 @@
--- What a reader hands over: points, the numbers a call gives back, and what reading into lent slices means.
-pub mod Answer
+-- What a reader hands over: points, and what reading into lent slices means.
 pub mod Point
 pub mod ReadInto
 pub mod Tabulate

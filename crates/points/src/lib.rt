@@ -3,12 +3,11 @@
 // Longer data is refused.
 pub const MAX_DATA_LEN: usize = 2_147_483_647;
 
-mod answer;
 mod lay;
 mod point;
 
-pub use answer::Answer;
-pub use answer::Refusal;
+pub use answers::Answer;
+pub use answers::Refusal;
 pub use lay::lacks_room;
 pub use lay::lay_bits;
 pub use lay::lay_point;

@@ -1,7 +1,7 @@
 // The numbers a call may give back, by name.
 
 ghost use mathlib.Core.Path.{_≡_};
-ghost use Rattle.points.specs.Answer.{refusalNumber, refusalPoints, numberOf, pointsOf, framesOf};
+ghost use Rattle.answers.specs.Answer.{refusalNumber, refusalPoints, numberOf, pointsOf, framesOf};
 
 // Why a call refuses, by the paper's numbers, which are also the order of the checks.
 pub enum Refusal {

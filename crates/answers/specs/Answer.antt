@@ -1,9 +1,9 @@
 -- The numbers a call may give back: what each case of code's answer stands for.
 use Prim.Native.Nat.{ℕ}
-use Rattle.points.specs.declared.answer.Refusal.{Refusal}
-use Rattle.points.specs.declared.answer.Refusal.the-variants.{TooLong, BadSettings, TooShort, WrongMark, WrongCode, HeaderTooShort, DevicesPastEnd, NotWholeRecords, NoPayload, NoRoom, NotPlaceable, BadPulseLength, OutsideWindow}
-use Rattle.points.specs.declared.answer.Answer.{Answer}
-use Rattle.points.specs.declared.answer.Answer.the-variants.{Read, Refused}
+use Rattle.answers.specs.declared.Refusal.{Refusal}
+use Rattle.answers.specs.declared.Refusal.the-variants.{TooLong, BadSettings, TooShort, WrongMark, WrongCode, HeaderTooShort, DevicesPastEnd, NotWholeRecords, NoPayload, NoRoom, NotPlaceable, BadPulseLength, OutsideWindow}
+use Rattle.answers.specs.declared.Answer.{Answer}
+use Rattle.answers.specs.declared.Answer.the-variants.{Read, Refused}
 
 -- Each refusal's number, and the points told with it: none, but for 10 the points needed.
 abbrev pub tells : Refusal → ℕ × ℕ

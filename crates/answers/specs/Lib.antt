@@ -1,0 +1,2 @@
+-- The numbers a call may give back.
+pub mod Answer
