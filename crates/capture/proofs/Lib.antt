@@ -2,5 +2,4 @@
 pub mod Joined
 pub mod Opening
 pub mod Records
-mod Rule
 pub mod Steps

@@ -9,7 +9,7 @@ use lib.ListN.{length}
 use borrow.Author.Tests.{lt-ltb, le-ltb}
 use Rattle.fields.specs.Number.{big, unsignedAt}
 use Rattle.points.specs.ReadInto.{firstRefusal}
-use Rattle.capture.specs.declared.reading.Reading.{Reading}
+use Rattle.record_rule.specs.declared.reading.Reading.{Reading}
 use Rattle.capture.specs.declared.walk.Cursor.{Cursor}
 use Rattle.capture.specs.Savefile.{leastFirstMagic, mostFirstMagic, fileChecks, checks}
 use Rattle.capture.specs.Payloads.{opening, startCursor}

@@ -10,10 +10,10 @@ use lib.Dec.{leb}
 use lib.ListN.{length, take, drop, length-take, length-drop}
 use borrow.Author.Tests.{le-leb, lt-leb}
 use Rattle.fields.specs.Number.{ByteOrder}
-use Rattle.capture.specs.declared.reading.Reading.{Reading}
-use Rattle.capture.specs.declared.record.Start.the-variants.{At, Nothing}
+use Rattle.record_rule.specs.declared.reading.Reading.{Reading}
+use Rattle.record_rule.specs.declared.rule.Start.the-variants.{At, Nothing}
 use Rattle.capture.specs.declared.walk.Captured.the-variants.{Bytes, PastEnd}
-use Rattle.capture.specs.Record.{verdict, startOf}
+use Rattle.record_rule.specs.Record.{verdict, startOf}
 use Rattle.capture.specs.Savefile.{RecordAt, capturedAt, recordsFrom, orderOf}
 use Rattle.capture.specs.Payloads.{recordBytes, ofStart, foundIn, foundFrom, capturedOf}
 

@@ -13,17 +13,17 @@ use lib.Dec.{eqb}
 use lib.ListN.{length, take, drop, getD, length-take, length-drop, length-map, List·getD-eq-default}
 use borrow.Author.Tests.{le-leb, ne-eqb}
 use Rattle.points.specs.ReadInto.{firstRefusal}
-use Rattle.capture.specs.declared.reading.Reading.{Reading}
-use Rattle.capture.specs.declared.record.Start.{Start}
-use Rattle.capture.specs.declared.record.Start.the-variants.{At, Nothing}
+use Rattle.record_rule.specs.declared.reading.Reading.{Reading}
+use Rattle.record_rule.specs.declared.rule.Start.{Start}
+use Rattle.record_rule.specs.declared.rule.Start.the-variants.{At, Nothing}
 use Rattle.capture.specs.declared.walk.Cursor.{Cursor}
 use Rattle.capture.specs.declared.walk.Place.{Place}
 use Rattle.capture.specs.declared.walk.Step.the-variants.{Payload, End}
-use Rattle.capture.specs.Record.{verdict, startOf}
+use Rattle.record_rule.specs.Record.{verdict, startOf}
 use Rattle.capture.specs.Savefile.{RecordAt, capturedAt, recordsFrom, orderOf, bigEndian, checks}
 use Rattle.capture.specs.Payloads.{Found, recordBytes, recordEnd, ofStart, foundIn, foundFrom, placesFrom, payloads, nowhere, placeOf, bytesAt, stepTo, stepOf}
 use Rattle.capture.proofs.Records.{past, enough}
-use Rattle.capture.proofs.Rule.{start-inside}
+use Rattle.record_rule.proofs.Tests.{start-inside}
 
 module _ (reading : Reading) (big : Bool) (port : ℕ) (bytes : List ℕ) where
   abbrev found : List RecordAt → List Found

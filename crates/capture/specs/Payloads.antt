@@ -7,9 +7,9 @@ use lib.Dec.{leb, eqb}
 use lib.ListN.{length, take, drop, getD}
 use Rattle.answers.specs.Answer.{refusalNumber}
 use Rattle.points.specs.ReadInto.{firstRefusal}
-use Rattle.capture.specs.declared.reading.Reading.{Reading}
-use Rattle.capture.specs.declared.record.Start.{Start}
-use Rattle.capture.specs.declared.record.Start.the-variants.{At, Nothing}
+use Rattle.record_rule.specs.declared.reading.Reading.{Reading}
+use Rattle.record_rule.specs.declared.rule.Start.{Start}
+use Rattle.record_rule.specs.declared.rule.Start.the-variants.{At, Nothing}
 use Rattle.capture.specs.declared.walk.Captured.{Captured}
 use Rattle.capture.specs.declared.walk.Captured.the-variants.{Bytes, PastEnd}
 use Rattle.capture.specs.declared.walk.Cursor.{Cursor}
@@ -18,7 +18,7 @@ use Rattle.capture.specs.declared.walk.Opened.the-variants as Openings
 use Rattle.capture.specs.declared.walk.Place.{Place}
 use Rattle.capture.specs.declared.walk.Step.{Step}
 use Rattle.capture.specs.declared.walk.Step.the-variants as Steps
-use Rattle.capture.specs.Record.{verdict, startOf}
+use Rattle.record_rule.specs.Record.{verdict, startOf}
 use Rattle.capture.specs.Savefile.{RecordAt, capturedAt, recordsFrom, bigEndian, orderOf, checks}
 
 -- The bytes that a record captured.

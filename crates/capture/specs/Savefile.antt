@@ -6,12 +6,9 @@ use lib.Dec.{leb, ltb, eqb}
 use lib.ListN.{length}
 use Rattle.fields.specs.Number.{ByteOrder, little, big, unsignedAt}
 use Rattle.points.specs.ReadInto.{Check, tooLong}
-use Rattle.capture.specs.declared.reading.Reading.{Reading}
-use Rattle.capture.specs.declared.reading.Reading.the-variants.{Rust, Savefile}
-
--- The reading of a caller who names none.
-abbrev pub usual : Reading
-usual = Rust
+use Rattle.record_rule.specs.declared.reading.Reading.{Reading}
+use Rattle.record_rule.specs.declared.reading.Reading.the-variants.{Rust, Savefile}
+pub use Rattle.record_rule.specs.Reading.{usual}
 
 -- The magic's four bytes as they stand in the file, for microseconds and for nanoseconds.
 -- d4 c3 b2 a1 and 4d 3c b2 a1

@@ -1,15 +1,8 @@
-// Captures: the UDP payloads of a libpcap savefile, in two readings.
+// Captures: a libpcap savefile walked payload by payload, in two readings.
 
-mod find;
-mod reading;
-mod record;
 mod walk;
 
-pub use find::payload;
-pub use find::payload_as;
-pub use find::payload_place;
-pub use find::payload_place_as;
-pub use reading::Reading;
+pub use record_rule::Reading;
 pub use walk::Cursor;
 pub use walk::Opened;
 pub use walk::Place;

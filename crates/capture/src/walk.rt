@@ -1,10 +1,9 @@
 // The walk over a capture's records, payload by payload.
 
-use crate::reading::Reading;
-use crate::record;
-use crate::record::Start;
 use fields::U32;
 use points::Refusal;
+use record_rule::Reading;
+use record_rule::Start;
 ghost use mathlib.Core.Path.{_≡_};
 ghost use mathlib.Core.Bool.{_||_};
 ghost use Prim.Native.Nat.{_+_, _≤_};
@@ -120,7 +119,7 @@ impl Cursor {
             };
             let start = at + RECORD_HEADER_LEN;
             let end = start + captured;
-            if let Start::At(from) = record::judge(&data[start..end], reading, port).start() {
+            if let Start::At(from) = record_rule::judge(&data[start..end], reading, port).start() {
                 return Step::Payload(
                     Place {
                         header: at,

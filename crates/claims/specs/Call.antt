@@ -4,12 +4,12 @@ use mathlib.Core.List.{List, map, flatMap}
 use lib.Ieee.{binary32, ofBits, toBits}
 use Rattle.fields.specs.Number.{unsignedAt}
 use Rattle.points.specs.ReadInto.{Outcome, firstRefusal, mapOutcome, over, readInto}
-use Rattle.capture.specs.declared.reading.Reading.{Reading}
+use Rattle.record_rule.specs.declared.reading.Reading.{Reading}
 use Rattle.capture.specs.declared.walk.Place.{Place}
-use Rattle.capture.specs.Ethernet.{etherType, ipStart}
-use Rattle.capture.specs.Ipv4.{version, ihl, protocol, udpStart}
-use Rattle.capture.specs.Udp.{destinationPort, payloadStart}
-use Rattle.capture.specs.Record.{verdict}
+use Rattle.record_rule.specs.Ethernet.{etherType, ipStart}
+use Rattle.record_rule.specs.Ipv4.{version, ihl, protocol, udpStart}
+use Rattle.record_rule.specs.Udp.{destinationPort, payloadStart}
+use Rattle.record_rule.specs.Record.{verdict}
 use Rattle.capture.specs.Savefile
 use Rattle.capture.specs.Payloads.{opening, placesFrom, bytesAt}
 use Rattle.kitti.specs.Kitti

@@ -3,7 +3,7 @@
 use Prim.Native.Nat.{ℕ}
 use mathlib.Core.List.{List, [], _∷_, _++_}
 use lib.ListN.{take}
-use Rattle.capture.specs.declared.reading.Reading.the-variants.{Rust, Savefile}
+use Rattle.record_rule.specs.declared.reading.Reading.the-variants.{Rust, Savefile}
 use Rattle.claims.specs.Call.{capture, firstLength, payload, payloads, lengthStated}
 use Rattle.claims.specs.Row.{Row, _tells_, dump}
 

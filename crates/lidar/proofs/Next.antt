@@ -4,7 +4,7 @@ use mathlib.Core.Path.{_≡_, sym, ap, _∙_}
 use mathlib.Core.List.{List, [], _∷_}
 use borrow.Author.Tests.{ne-eqb}
 use Rattle.points.specs.ReadInto.{firstRefusal}
-use Rattle.capture.specs.declared.reading.Reading.{Reading}
+use Rattle.record_rule.specs.declared.reading.Reading.{Reading}
 use Rattle.capture.specs.declared.walk.Cursor.{Cursor}
 use Rattle.capture.specs.declared.walk.Step.{Step}
 use Rattle.capture.specs.Savefile.{checks}

@@ -10,7 +10,7 @@ use mathlib.Core.List.{List, [], _∷_}
 use lib.Dec.{eqb, ltb}
 use borrow.Author.Tests.{ne-eqb, lt-ltb, le-ltb}
 use Rattle.points.specs.ReadInto.{firstRefusal}
-use Rattle.capture.specs.declared.reading.Reading.{Reading}
+use Rattle.record_rule.specs.declared.reading.Reading.{Reading}
 use Rattle.capture.specs.declared.walk.Cursor.{Cursor}
 use Rattle.capture.specs.declared.walk.Place.{Place}
 use Rattle.capture.specs.declared.walk.Step.{Step}

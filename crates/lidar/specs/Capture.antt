@@ -4,8 +4,8 @@ use mathlib.Core.Bool.{Bool, true, false, cond}
 use mathlib.Core.List.{List}
 use lib.Dec.{ltb, eqb}
 use Rattle.points.specs.ReadInto.{firstRefusal}
-use Rattle.capture.specs.declared.reading.Reading.{Reading}
-use Rattle.capture.specs.declared.reading.Reading.the-variants.{Rust, Savefile}
+use Rattle.record_rule.specs.declared.reading.Reading.{Reading}
+use Rattle.record_rule.specs.declared.reading.Reading.the-variants.{Rust, Savefile}
 use Rattle.capture.specs.declared.walk.Cursor.{Cursor}
 use Rattle.capture.specs.declared.walk.Step.{Step}
 use Rattle.capture.specs.declared.walk.Step.the-variants.{Payload, End}

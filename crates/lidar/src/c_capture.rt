@@ -83,7 +83,7 @@ fn tell_place(
 ) -> u8
     ensures { λ r. ⌜ placeTold r (now (start .exit)) (now (len .exit)) ≡ tellPlace reading port rank (now («data» .entry)) ⌝ }
 {
-    let place = capture::payload_place_as(data, reading, port, rank);
+    let place = payloads::payload_place_as(data, reading, port, rank);
     *start = place.start;
     *len = place.len;
     number_of(data, reading)

@@ -95,7 +95,7 @@ fn show_payloads(name: &[u8], data: &[u8], first: Cursor) {
 }
 
 fn show_rank(data: &[u8], rank: usize) {
-    let payload = capture::payload_as(data, Reading::Savefile, 0, rank);
+    let payload = payloads::payload_as(data, Reading::Savefile, 0, rank);
     if payload.len() == 0 {
         write(b" none\n");
         return;

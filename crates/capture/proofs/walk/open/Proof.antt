@@ -1,6 +1,6 @@
 -- `capture::open` meets its contract: it names the usual reading. Assumes nothing.
 use mathlib.Core.Path.{_∙_, ap}
-use Rattle.capture.specs.declared.reading.Reading.{Reading}
+use Rattle.record_rule.specs.declared.reading.Reading.{Reading}
 use Rattle.capture.specs.Payloads.{opening}
 use borrow.Author.Needs.{needs}
 use Rattle.capture.proofs.walk.open.Statement.{statement}

@@ -1,0 +1,46 @@
+-- `payloads::payload_as` meets its contract: the place of the rank lies inside the capture, and the part that starts there is handed back. Assumes nothing.
+use Prim.Native.Nat.{_+_, _≤_}
+use native.Mathlib.Omega.{arith}
+use mathlib.Core.Path.{refl, ap, _∙_}
+use lib.ListN.{length}
+use Rattle.capture.specs.declared.walk.Place.{Place}
+use Rattle.capture.specs.Payloads.{bytesAt}
+use Rattle.capture.proofs.Steps.{part-lent, place-inside}
+use borrow.Author.Needs.{needs}
+use Rattle.payloads.proofs.payload_as.Statement.{statement}
+use Rattle.payloads.proofs.payload_as.Tie as tie
+
+inside : (c : tie.After-payload-place-as) → c .payload-place-as .result .start + c .payload-place-as .result .len ≤ length (c .before .before .args .«data» .now)
+inside c = rw (c .payload-place-as .ensures) (place-inside _ _ _ _)
+
+payload-place-as-requires : tie.Need-payload-place-as-requires
+payload-place-as-requires c κs = search needs
+
+add-end : tie.Need-add-end
+add-end c = omega (arith, inside (c .before))
+
+sub-result : tie.Need-sub-result
+sub-result c = search needs
+
+part-result-start : tie.Need-part-result-start
+part-result-start c = search needs
+
+part-result-end : tie.Need-part-result-end
+part-result-end c = inside (c .before)
+
+returns : tie.Need-returns
+returns c =
+    let a = c .before .before .before .before .args in
+    let is = c .before .before .payload-place-as .ensures in
+    (part-lent (a .«data» .now) (c .before .before .payload-place-as .result) ∙ ap (bytesAt (a .«data» .now)) is, (refl, ap (λ (p : Place). p .start + a .«data» .ptr .1) is))
+
+pub payload-as-spec : {M : Type 1} → statement M
+payload-as-spec =
+    tie.close
+    (tie.spec
+    payload-place-as-requires
+    add-end
+    sub-result
+    part-result-start
+    part-result-end
+    returns)

@@ -1,0 +1,11 @@
+-- RFC 768: a header of eight bytes, the destination port at 2. The payload follows it, to the record's end: neither reading looks at the length or the checksum.
+use Prim.Native.Nat.{ℕ, _+_}
+use mathlib.Core.List.{List}
+use Rattle.fields.specs.Number.{big, unsignedAt}
+use Rattle.record_rule.specs.Ipv4.{udpStart}
+
+unfoldable pub destinationPort : List ℕ → ℕ
+destinationPort bytes = unsignedAt big 2 bytes (udpStart bytes + 2)
+
+unfoldable pub payloadStart : List ℕ → ℕ
+payloadStart bytes = udpStart bytes + 8
