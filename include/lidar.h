@@ -42,7 +42,7 @@ enum lidar_kind {
 
    The caller owns all memory. A call keeps no pointer and allocates nothing.
    No pointer may be null, even where its length is 0. Each must be aligned for its type.
-   What a call writes may overlap neither the data nor anything else that it writes. */
+   What a call writes may overlap neither what it reads nor anything else that it writes. */
 
 /* ---- point clouds
 
@@ -68,6 +68,91 @@ uint8_t lidar_read_kitti_bits(const uint8_t *data, size_t data_len,
                               uint32_t *bits, size_t bits_len,
                               uint8_t *kinds, size_t kinds_len,
                               size_t *points, size_t *frames);
+
+/* Reads a Livox file, LVX or LVX2. Points of integers are Cartesian; spherical points are polar, with
+   the zenith angle in the place of the elevation. In LVX, a float record's NaN arrives as a NaN, but
+   which one is left open; every other float arrives bit for bit. */
+uint8_t lidar_read_lvx(const uint8_t *data, size_t data_len,
+                       float *numbers, size_t numbers_len,
+                       uint8_t *kinds, size_t kinds_len,
+                       size_t *points, size_t *frames);
+
+uint8_t lidar_read_lvx2(const uint8_t *data, size_t data_len,
+                        float *numbers, size_t numbers_len,
+                        uint8_t *kinds, size_t kinds_len,
+                        size_t *points, size_t *frames);
+
+/* The same, with each float as its pattern: float records as the file stores them, a NaN too. */
+uint8_t lidar_read_lvx_bits(const uint8_t *data, size_t data_len,
+                            uint32_t *bits, size_t bits_len,
+                            uint8_t *kinds, size_t kinds_len,
+                            size_t *points, size_t *frames);
+
+uint8_t lidar_read_lvx2_bits(const uint8_t *data, size_t data_len,
+                             uint32_t *bits, size_t bits_len,
+                             uint8_t *kinds, size_t kinds_len,
+                             size_t *points, size_t *frames);
+
+/* Reads a capture of Velodyne packets, which are the payloads on port 2368. Every point is polar.
+   savefile names the reading, as for captures below; without it the reading is the usual one. */
+uint8_t lidar_read_velodyne_as(const uint8_t *data, size_t data_len, bool savefile,
+                               float *numbers, size_t numbers_len,
+                               uint8_t *kinds, size_t kinds_len,
+                               size_t *points, size_t *frames);
+
+uint8_t lidar_read_velodyne(const uint8_t *data, size_t data_len,
+                            float *numbers, size_t numbers_len,
+                            uint8_t *kinds, size_t kinds_len,
+                            size_t *points, size_t *frames);
+
+/* Reads one Velodyne packet. It has no point if it is below 1206 bytes, and at most 384. Refuses with
+   LIDAR_TOO_LONG or LIDAR_NO_ROOM alone. */
+uint8_t lidar_decode_velodyne_packet(const uint8_t *payload, size_t payload_len,
+                                     float *numbers, size_t numbers_len,
+                                     uint8_t *kinds, size_t kinds_len,
+                                     size_t *points, size_t *frames);
+
+/* The model that a packet's byte at 1205 names. */
+enum lidar_velodyne_model {
+    LIDAR_VLP16 = 0,
+    LIDAR_HDL32E = 1,
+    LIDAR_VLP32C = 2,
+    LIDAR_UNKNOWN_MODEL = 3  /* elevations as for LIDAR_VLP32C */
+};
+
+uint8_t lidar_detect_velodyne_model(uint8_t factory_byte);
+
+/* Reads a capture of Ouster packets of the legacy profile. Every point is polar, with the azimuth in
+   radians.
+
+   columns_per_packet   1 to 64
+   pixels_per_column    the beams: 16, 32, 64 or 128
+   lidar_port           the packets' destination port; 0 asks for every one
+   beam_altitudes       the elevation of each beam in degrees, at least pixels_per_column of them,
+                        which are only read; a NaN among them arrives as some NaN
+   savefile             as for Velodyne */
+uint8_t lidar_read_ouster_as(const uint8_t *data, size_t data_len, bool savefile,
+                             size_t columns_per_packet, size_t pixels_per_column,
+                             uint16_t lidar_port,
+                             const float *beam_altitudes, size_t beam_altitudes_len,
+                             float *numbers, size_t numbers_len,
+                             uint8_t *kinds, size_t kinds_len,
+                             size_t *points, size_t *frames);
+
+uint8_t lidar_read_ouster(const uint8_t *data, size_t data_len,
+                          size_t columns_per_packet, size_t pixels_per_column,
+                          uint16_t lidar_port,
+                          const float *beam_altitudes, size_t beam_altitudes_len,
+                          float *numbers, size_t numbers_len,
+                          uint8_t *kinds, size_t kinds_len,
+                          size_t *points, size_t *frames);
+
+/* The settings of two sensors, with 64 and 128 elevations. Port 7502, 16 columns. */
+void lidar_os1_64(size_t *columns_per_packet, size_t *pixels_per_column, uint16_t *lidar_port,
+                  float beam_altitudes[64]);
+
+void lidar_os_128(size_t *columns_per_packet, size_t *pixels_per_column, uint16_t *lidar_port,
+                  float beam_altitudes[128]);
 
 /* ---- captures: the UDP payloads of a libpcap savefile
 

@@ -63,7 +63,7 @@ pub extern "C" fn lidar_next_payload(
     tell_next(data, Reading::usual(), port, at, start, len)
 }
 
-fn reading_of(savefile: bool) -> Reading
+pub(crate) fn reading_of(savefile: bool) -> Reading
     ensures { λ r. ⌜ r ≡ readingOf savefile ⌝ }
 {
     if savefile {

@@ -1,6 +1,6 @@
-// KITTI files, as include/lidar.h declares the calls. Each gives back the paper's number, and the points
-// and the frames by reference.
+// KITTI files, as include/lidar.h declares the calls.
 
+use crate::c_answer::tell;
 ghost use mathlib.Core.Path.{_≡_};
 ghost use Rattle.points.specs.ReadInto.{outcome};
 ghost use Rattle.kitti.specs.Kitti.{readKitti, readKittiBits};
@@ -15,10 +15,7 @@ pub extern "C" fn lidar_read_kitti(
 ) -> u8
     ensures { λ r. ⌜ outcome r (now (points .exit)) (now (frames .exit)) (now (numbers .exit)) (now (kinds .exit)) ≡ readKitti (now («data» .entry)) (now (numbers .entry)) (now (kinds .entry)) ⌝ }
 {
-    let answer = kitti::read_kitti(data, numbers, kinds);
-    *points = answer.points();
-    *frames = answer.frames();
-    answer.number()
+    tell(kitti::read_kitti(data, numbers, kinds), points, frames)
 }
 
 #[no_mangle]
@@ -31,8 +28,5 @@ pub extern "C" fn lidar_read_kitti_bits(
 ) -> u8
     ensures { λ r. ⌜ outcome r (now (points .exit)) (now (frames .exit)) (now (bits .exit)) (now (kinds .exit)) ≡ readKittiBits (now («data» .entry)) (now (bits .entry)) (now (kinds .entry)) ⌝ }
 {
-    let answer = kitti::read_kitti_bits(data, bits, kinds);
-    *points = answer.points();
-    *frames = answer.frames();
-    answer.number()
+    tell(kitti::read_kitti_bits(data, bits, kinds), points, frames)
 }
