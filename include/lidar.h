@@ -1,4 +1,4 @@
-/* The lidar readers, for C and C++. Link liblidar.a, which `rt staticlib lidar` writes. */
+/* The lidar readers, for C and C++. Link liblidar.a, which `./staticlib` writes. */
 #ifndef LIDAR_H
 #define LIDAR_H
 

@@ -1,11 +1,4 @@
-// What others link: every public call, and its form for C.
-
-mod c_answer;
-mod c_capture;
-mod c_kitti;
-mod c_livox;
-mod c_ouster;
-mod c_velodyne;
+// What others use: every public call.
 
 pub use capture::Cursor;
 pub use capture::Opened;

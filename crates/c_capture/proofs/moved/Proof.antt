@@ -1,0 +1,13 @@
+-- `c_capture::moved` meets its contract, by its test. Assumes nothing.
+use borrow.Author.Tests.{lt-ltb, le-ltb}
+use Rattle.c_capture.proofs.moved.Statement.{statement}
+use Rattle.c_capture.proofs.moved.Tie as tie
+
+returns : tie.Need-returns
+returns c = rw (lt-ltb _ _ (c .if1 .taken))
+
+returns-2 : tie.Need-returns-2
+returns-2 c = rw (le-ltb _ _ (c .if1 .left))
+
+pub moved-spec : {M : Type 1} → statement M
+moved-spec = tie.close (tie.spec returns returns-2)

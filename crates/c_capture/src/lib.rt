@@ -1,0 +1,128 @@
+// Captures, as include/lidar.h declares the calls. What they tell of a payload goes out by reference.
+
+use c_form::reading_of;
+use capture::Cursor;
+use capture::Opened;
+use capture::Reading;
+use capture::Step;
+ghost use mathlib.Core.Path.{_≡_};
+ghost use Rattle.points.specs.ReadInto.{firstRefusal};
+ghost use Rattle.capture.specs.Savefile.{usual, checks};
+ghost use Rattle.c_form.specs.Reading.{readingOf};
+ghost use Rattle.c_capture.specs.Capture.{movedTo, placeTold, tellPlace, nextTold, tellNext};
+
+#[no_mangle]
+pub extern "C" fn lidar_payload_place_as(
+    data: &[u8],
+    savefile: bool,
+    port: u16,
+    rank: usize,
+    start: &mut usize,
+    len: &mut usize,
+) -> u8
+    ensures { λ r. ⌜ placeTold r (now (start .exit)) (now (len .exit)) ≡ tellPlace (readingOf savefile) port rank (now («data» .entry)) ⌝ }
+{
+    tell_place(data, reading_of(savefile), port, rank, start, len)
+}
+
+#[no_mangle]
+pub extern "C" fn lidar_payload_place(
+    data: &[u8],
+    port: u16,
+    rank: usize,
+    start: &mut usize,
+    len: &mut usize,
+) -> u8
+    ensures { λ r. ⌜ placeTold r (now (start .exit)) (now (len .exit)) ≡ tellPlace usual port rank (now («data» .entry)) ⌝ }
+{
+    tell_place(data, Reading::usual(), port, rank, start, len)
+}
+
+#[no_mangle]
+pub extern "C" fn lidar_next_payload_as(
+    data: &[u8],
+    savefile: bool,
+    port: u16,
+    at: &mut usize,
+    start: &mut usize,
+    len: &mut usize,
+) -> bool
+    ensures { λ r. ⌜ nextTold r (now (at .exit)) (now (start .exit)) (now (len .exit)) ≡ tellNext (readingOf savefile) port (now («data» .entry)) (now (at .entry)) ⌝ }
+{
+    tell_next(data, reading_of(savefile), port, at, start, len)
+}
+
+#[no_mangle]
+pub extern "C" fn lidar_next_payload(
+    data: &[u8],
+    port: u16,
+    at: &mut usize,
+    start: &mut usize,
+    len: &mut usize,
+) -> bool
+    ensures { λ r. ⌜ nextTold r (now (at .exit)) (now (start .exit)) (now (len .exit)) ≡ tellNext usual port (now («data» .entry)) (now (at .entry)) ⌝ }
+{
+    tell_next(data, Reading::usual(), port, at, start, len)
+}
+
+fn tell_place(
+    data: &[u8],
+    reading: Reading,
+    port: u16,
+    rank: usize,
+    start: &mut usize,
+    len: &mut usize,
+) -> u8
+    ensures { λ r. ⌜ placeTold r (now (start .exit)) (now (len .exit)) ≡ tellPlace reading port rank (now («data» .entry)) ⌝ }
+{
+    let place = payloads::payload_place_as(data, reading, port, rank);
+    *start = place.start;
+    *len = place.len;
+    number_of(data, reading)
+}
+
+// The checks do not ask for a port.
+fn number_of(data: &[u8], reading: Reading) -> u8
+    ensures { λ r. ⌜ r ≡ firstRefusal (checks reading (now («data» .entry))) ⌝ }
+{
+    match capture::open_as(data, reading, 0) {
+        Opened::Walk(_) => 0,
+        Opened::Refused(refusal) => refusal.number(),
+    }
+}
+
+fn tell_next(
+    data: &[u8],
+    reading: Reading,
+    port: u16,
+    at: &mut usize,
+    start: &mut usize,
+    len: &mut usize,
+) -> bool
+    ensures { λ r. ⌜ nextTold r (now (at .exit)) (now (start .exit)) (now (len .exit)) ≡ tellNext reading port (now («data» .entry)) (now (at .entry)) ⌝ }
+{
+    *start = 0;
+    *len = 0;
+    let Opened::Walk(cursor) = capture::open_as(data, reading, port) else {
+        return false;
+    };
+    let Step::Payload(place, next) = moved(cursor, *at).step(data) else {
+        return false;
+    };
+    *at = next.at;
+    *start = place.start;
+    *len = place.len;
+    true
+}
+
+// The cursor moved on to a place. A place before it means its own.
+fn moved(cursor: Cursor, at: usize) -> Cursor
+    ensures { λ r. ⌜ r ≡ movedTo cursor at ⌝ }
+{
+    Cursor {
+        at: if at < cursor.at { cursor.at } else { at },
+        port: cursor.port,
+        reading: cursor.reading,
+        big_endian: cursor.big_endian,
+    }
+}

@@ -1,0 +1,2 @@
+-- What the C forms share.
+pub mod Reading

@@ -1,0 +1,2 @@
+-- How C numbers the Velodyne models.
+pub mod Velodyne
