@@ -33,6 +33,61 @@ replace() {
     original=$before$2$after
 }
 
+# Cuts the readers of captures in two, so that the second part takes payloads.
+payloads_apart() {
+    replace '        if payloads.is_empty() {
+            return Err(Error::InvalidData(
+                "No Velodyne' '        Self::read_payloads(&payloads)
+    }
+
+    pub fn read_payloads(payloads: &[Vec<u8>]) -> Result<PointCloud<Point3f>> {
+        if payloads.is_empty() {
+            return Err(Error::InvalidData(
+                "No Velodyne'
+    replace '        for p in &payloads {' '        for p in payloads {'
+    replace '        if payloads.is_empty() {
+            return Err(Error::InvalidData(format!(
+                "No Ouster' '        self.read_payloads(&payloads)
+    }
+
+    pub fn read_payloads(&self, payloads: &[Vec<u8>]) -> Result<PointCloud<Point3f>> {
+        if payloads.is_empty() {
+            return Err(Error::InvalidData(format!(
+                "No Ouster'
+    replace '        for payload in &payloads {' '        for payload in payloads {'
+}
+
+# Has the original push the values just before the angles become radians or sines.
+polar() {
+    replace '            let el = el_deg.to_radians();
+            let az = az_deg.to_radians();
+            let cos_el = el.cos();
+            points.push(Point3f::new(
+                distance * cos_el * az.sin(),
+                distance * cos_el * az.cos(),
+                distance * el.sin(),
+            ));' '            points.push(Point3f::new(distance, el_deg, az_deg));'
+    replace '                let cos_az = azimuth.cos();
+                let sin_az = azimuth.sin();
+' ''
+    replace '                    let alt = self.beam_altitudes[ch].to_radians();
+                    let cos_alt = alt.cos();
+
+                    points.push(Point3f::new(
+                        r * cos_alt * cos_az,
+                        r * cos_alt * sin_az,
+                        r * alt.sin(),
+                    ));' '                    points.push(Point3f::new(r, self.beam_altitudes[ch], azimuth));'
+    replace '    let theta = (theta_cdeg as f32 * 0.01_f32).to_radians();
+    let phi = (phi_cdeg as f32 * 0.01_f32).to_radians();
+    let sin_t = theta.sin();
+    Point3f::new(
+        r * sin_t * phi.cos(),
+        r * sin_t * phi.sin(),
+        r * theta.cos(),
+    )' '    Point3f::new(r, theta_cdeg as f32 * 0.01_f32, phi_cdeg as f32 * 0.01_f32)'
+}
+
 # Builds the crate threecrate_io from $original. Its stand-in finds the original beside itself.
 build_original() {
     printf '%s\n' "$original" >"$target/lidar.rs"

@@ -133,6 +133,50 @@ fn any(random: &mut Random, reading: Reading) -> Capture {
     Capture { data, ports: asked }
 }
 
+/// A capture of packets, of which most are sent to the port. It is well-formed in the reading, or has
+/// the faults that `any` has too, but for fewer of them, so that most packets are found.
+pub fn of_packets(
+    random: &mut Random,
+    reading: Reading,
+    port: u16,
+    mut packet: impl FnMut(&mut Random) -> Vec<u8>,
+) -> Vec<u8> {
+    let magic = match random.below(50) {
+        0 => random.pick(&WRONG_MAGICS),
+        _ => random.pick(&MAGICS),
+    };
+    let mut maker = Maker::new(random, magic, reading);
+    let records = random.pick(&[0, 1, 1, 1, 1, 2, 2, 3]);
+    let wrong_lengths = random.pick(&[0, 0, 0, 2]);
+    for _ in 0..records {
+        let to = match random.below(10) {
+            0 => random.pick(&PORTS),
+            _ => port,
+        };
+        let mut frame = match random.below(4) {
+            0 => Frame::any(random, to),
+            _ => Frame::usual(0, to),
+        };
+        let payload = packet(random);
+        frame.length = frame.payload() + payload.len();
+        let bytes = frame.bytes_around(random, &payload);
+        let stated = if random.below(16) < wrong_lengths {
+            maker.wrong_length(random, bytes.len())
+        } else {
+            bytes.len() as u32
+        };
+        maker.record(random, stated, &bytes);
+    }
+    let mut data = maker.data;
+    match random.below(24) {
+        0 => data.truncate(random.below(data.len() + 1)),
+        1 => data.extend((0..random.below(60)).map(|i| i as u8)),
+        2 => damage(random, &mut data, FILE_HEADER),
+        _ => {}
+    }
+    data
+}
+
 /// Flips bits behind the first bytes.
 fn damage(random: &mut Random, data: &mut [u8], kept: usize) {
     let rest = &mut data[kept..];
@@ -257,8 +301,15 @@ impl Frame {
     }
 
     fn bytes(&self, random: &mut Random) -> Vec<u8> {
+        self.bytes_around(random, &[])
+    }
+
+    /// With a short IHL the headers lie over the payload.
+    fn bytes_around(&self, random: &mut Random, payload: &[u8]) -> Vec<u8> {
         let mut bytes = Vec::new();
-        bytes.resize_with(self.length.max(self.payload()), || random.next() as u8);
+        let filled = self.length.max(self.payload()) - payload.len();
+        bytes.resize_with(filled, || random.next() as u8);
+        bytes.splice(self.payload()..self.payload(), payload.iter().copied());
         for (i, ether_type) in self.types.iter().enumerate() {
             bytes[12 + 4 * i..][..2].copy_from_slice(&ether_type.to_be_bytes());
         }

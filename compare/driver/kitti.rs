@@ -5,11 +5,10 @@ use crate::long::{untouched, TOO_LONG};
 use crate::original::Original;
 use crate::ours;
 use crate::random::Random;
-use crate::reading::{refusal, too_little_room, Call, Expected, Room};
+use crate::reading::{refusal, rooms, too_little_room, Call, Expected, Room, CARTESIAN};
 use crate::tally::Tally;
 
 const RECORD: usize = 16;
-const CARTESIAN: u8 = 1;
 
 const CALLS: [Call; 2] = [
     Call::Bits("lidar_read_kitti_bits", &ours::read_kitti_bits),
@@ -91,35 +90,6 @@ fn file(random: &mut Random, case: u64) -> Vec<u8> {
     }
     data.truncate(length);
     data
-}
-
-/// The exact room, more than needed, and too little in one slice or both. A file that is refused
-/// gets the same rooms: its refusal comes before any look at the room.
-fn rooms(random: &mut Random, points: usize) -> Vec<Room> {
-    let room = |numbers, kinds| Room { numbers, kinds };
-    let numbers = 3 * points;
-    let some = random.within(1, 40);
-    let mut rooms = vec![
-        room(numbers, points),
-        room(numbers + some, points),
-        room(numbers, points + some),
-        room(numbers + some, points + random.within(1, 40)),
-    ];
-    if points > 0 {
-        rooms.extend([
-            room(numbers - 1, points),
-            room(random.below(numbers), points),
-            room(0, points),
-            room(numbers, points - 1),
-            room(numbers, random.below(points)),
-            room(numbers, 0),
-            room(numbers - 1, points + some),
-            room(numbers + some, points - 1),
-            room(random.below(numbers), random.below(points)),
-            room(0, 0),
-        ]);
-    }
-    rooms
 }
 
 /// The refusals that a length around 2^31 gives. The original has no such limit, and is not asked.

@@ -6,14 +6,19 @@ mod capture_files;
 mod captures;
 mod kitti;
 mod lent;
+mod livox;
+mod livox_files;
 mod long;
 mod original;
 mod ours;
+mod ouster;
 mod random;
 mod reading;
 mod tally;
+mod velodyne;
 mod words;
 
+use livox_files::Form;
 use original::Original;
 use std::process::ExitCode;
 
@@ -31,8 +36,15 @@ fn main() -> ExitCode {
         kitti::compare(&original, seed, files).finish(),
         captures::compare(&original, seed, files).finish(),
         captures::compare_savefile(seed, files).finish(),
+        velodyne::compare(&original, seed, files).finish(),
+        velodyne::compare_savefile(seed, files).finish(),
+        velodyne::compare_packets(seed, files).finish(),
+        ouster::compare(&original, seed, files).finish(),
+        ouster::compare_savefile(seed, files).finish(),
+        livox::compare(&original, Form::Lvx, seed, files).finish(),
+        livox::compare(&original, Form::Lvx2, seed, files).finish(),
     ];
-    if same == [true; 3] {
+    if same == [true; 10] {
         ExitCode::SUCCESS
     } else {
         ExitCode::FAILURE

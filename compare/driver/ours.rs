@@ -1,9 +1,50 @@
 //! The calls of `include/lidar.h`, as safe functions over slices.
 
+/// How C takes a reader: data, a slice for the numbers, one for the kinds, and two results.
+type Reader<T> = unsafe extern "C" fn(
+    *const u8,
+    usize,
+    *mut T,
+    usize,
+    *mut u8,
+    usize,
+    *mut usize,
+    *mut usize,
+) -> u8;
+
+macro_rules! readers {
+    ($($name:ident: $number:ty),* $(,)?) => {
+        extern "C" {
+            $(fn $name(
+                data: *const u8,
+                data_len: usize,
+                numbers: *mut $number,
+                numbers_len: usize,
+                kinds: *mut u8,
+                kinds_len: usize,
+                points: *mut usize,
+                frames: *mut usize,
+            ) -> u8;)*
+        }
+    };
+}
+
+readers! {
+    lidar_read_kitti: f32,
+    lidar_read_kitti_bits: u32,
+    lidar_read_velodyne: f32,
+    lidar_decode_velodyne_packet: f32,
+    lidar_read_lvx: f32,
+    lidar_read_lvx2: f32,
+    lidar_read_lvx_bits: u32,
+    lidar_read_lvx2_bits: u32,
+}
+
 extern "C" {
-    fn lidar_read_kitti(
+    fn lidar_read_velodyne_as(
         data: *const u8,
         data_len: usize,
+        savefile: bool,
         numbers: *mut f32,
         numbers_len: usize,
         kinds: *mut u8,
@@ -12,16 +53,54 @@ extern "C" {
         frames: *mut usize,
     ) -> u8;
 
-    fn lidar_read_kitti_bits(
+    fn lidar_detect_velodyne_model(factory_byte: u8) -> u8;
+
+    fn lidar_read_ouster_as(
         data: *const u8,
         data_len: usize,
-        bits: *mut u32,
-        bits_len: usize,
+        savefile: bool,
+        columns_per_packet: usize,
+        pixels_per_column: usize,
+        lidar_port: u16,
+        beam_altitudes: *const f32,
+        beam_altitudes_len: usize,
+        numbers: *mut f32,
+        numbers_len: usize,
         kinds: *mut u8,
         kinds_len: usize,
         points: *mut usize,
         frames: *mut usize,
     ) -> u8;
+
+    fn lidar_read_ouster(
+        data: *const u8,
+        data_len: usize,
+        columns_per_packet: usize,
+        pixels_per_column: usize,
+        lidar_port: u16,
+        beam_altitudes: *const f32,
+        beam_altitudes_len: usize,
+        numbers: *mut f32,
+        numbers_len: usize,
+        kinds: *mut u8,
+        kinds_len: usize,
+        points: *mut usize,
+        frames: *mut usize,
+    ) -> u8;
+
+    fn lidar_os1_64(
+        columns_per_packet: *mut usize,
+        pixels_per_column: *mut usize,
+        lidar_port: *mut u16,
+        beam_altitudes: *mut f32,
+    );
+
+    fn lidar_os_128(
+        columns_per_packet: *mut usize,
+        pixels_per_column: *mut usize,
+        lidar_port: *mut u16,
+        beam_altitudes: *mut f32,
+    );
 
     fn lidar_payload_place_as(
         data: *const u8,
@@ -88,11 +167,12 @@ const UNWRITTEN: Answer = Answer {
     frames: 5_555_555_555_555_555_555,
 };
 
-pub fn read_kitti(data: &[u8], numbers: &mut [f32], kinds: &mut [u8]) -> Answer {
+/// Calls a reader.
+fn read<T>(call: Reader<T>, data: &[u8], numbers: &mut [T], kinds: &mut [u8]) -> Answer {
     let mut answer = UNWRITTEN;
     // SAFETY: each pointer and length come from one slice, and borrows of mutable slices are apart.
     answer.number = unsafe {
-        lidar_read_kitti(
+        call(
             data.as_ptr(),
             data.len(),
             numbers.as_mut_ptr(),
@@ -106,15 +186,53 @@ pub fn read_kitti(data: &[u8], numbers: &mut [f32], kinds: &mut [u8]) -> Answer 
     answer
 }
 
+pub fn read_kitti(data: &[u8], numbers: &mut [f32], kinds: &mut [u8]) -> Answer {
+    read(lidar_read_kitti, data, numbers, kinds)
+}
+
 pub fn read_kitti_bits(data: &[u8], bits: &mut [u32], kinds: &mut [u8]) -> Answer {
+    read(lidar_read_kitti_bits, data, bits, kinds)
+}
+
+pub fn read_velodyne(data: &[u8], numbers: &mut [f32], kinds: &mut [u8]) -> Answer {
+    read(lidar_read_velodyne, data, numbers, kinds)
+}
+
+pub fn decode_velodyne_packet(data: &[u8], numbers: &mut [f32], kinds: &mut [u8]) -> Answer {
+    read(lidar_decode_velodyne_packet, data, numbers, kinds)
+}
+
+pub fn read_lvx(data: &[u8], numbers: &mut [f32], kinds: &mut [u8]) -> Answer {
+    read(lidar_read_lvx, data, numbers, kinds)
+}
+
+pub fn read_lvx2(data: &[u8], numbers: &mut [f32], kinds: &mut [u8]) -> Answer {
+    read(lidar_read_lvx2, data, numbers, kinds)
+}
+
+pub fn read_lvx_bits(data: &[u8], bits: &mut [u32], kinds: &mut [u8]) -> Answer {
+    read(lidar_read_lvx_bits, data, bits, kinds)
+}
+
+pub fn read_lvx2_bits(data: &[u8], bits: &mut [u32], kinds: &mut [u8]) -> Answer {
+    read(lidar_read_lvx2_bits, data, bits, kinds)
+}
+
+pub fn read_velodyne_as(
+    savefile: bool,
+    data: &[u8],
+    numbers: &mut [f32],
+    kinds: &mut [u8],
+) -> Answer {
     let mut answer = UNWRITTEN;
-    // SAFETY: as in read_kitti.
+    // SAFETY: as in read.
     answer.number = unsafe {
-        lidar_read_kitti_bits(
+        lidar_read_velodyne_as(
             data.as_ptr(),
             data.len(),
-            bits.as_mut_ptr(),
-            bits.len(),
+            savefile,
+            numbers.as_mut_ptr(),
+            numbers.len(),
             kinds.as_mut_ptr(),
             kinds.len(),
             &mut answer.points,
@@ -122,6 +240,100 @@ pub fn read_kitti_bits(data: &[u8], bits: &mut [u32], kinds: &mut [u8]) -> Answe
         )
     };
     answer
+}
+
+pub fn detect_velodyne_model(factory_byte: u8) -> u8 {
+    // SAFETY: it takes a number.
+    unsafe { lidar_detect_velodyne_model(factory_byte) }
+}
+
+/// The Ouster settings, with the elevations.
+#[derive(Clone, Debug, PartialEq)]
+pub struct OusterSettings {
+    pub columns_per_packet: usize,
+    pub pixels_per_column: usize,
+    pub lidar_port: u16,
+    pub beam_altitudes: Vec<f32>,
+}
+
+/// Without `savefile` the reading is the usual one.
+pub fn read_ouster(
+    settings: &OusterSettings,
+    savefile: Option<bool>,
+    data: &[u8],
+    numbers: &mut [f32],
+    kinds: &mut [u8],
+) -> Answer {
+    let mut answer = UNWRITTEN;
+    let altitudes = &settings.beam_altitudes;
+    // SAFETY: as in read.
+    answer.number = unsafe {
+        match savefile {
+            Some(savefile) => lidar_read_ouster_as(
+                data.as_ptr(),
+                data.len(),
+                savefile,
+                settings.columns_per_packet,
+                settings.pixels_per_column,
+                settings.lidar_port,
+                altitudes.as_ptr(),
+                altitudes.len(),
+                numbers.as_mut_ptr(),
+                numbers.len(),
+                kinds.as_mut_ptr(),
+                kinds.len(),
+                &mut answer.points,
+                &mut answer.frames,
+            ),
+            None => lidar_read_ouster(
+                data.as_ptr(),
+                data.len(),
+                settings.columns_per_packet,
+                settings.pixels_per_column,
+                settings.lidar_port,
+                altitudes.as_ptr(),
+                altitudes.len(),
+                numbers.as_mut_ptr(),
+                numbers.len(),
+                kinds.as_mut_ptr(),
+                kinds.len(),
+                &mut answer.points,
+                &mut answer.frames,
+            ),
+        }
+    };
+    answer
+}
+
+pub fn os1_64() -> OusterSettings {
+    made_ready(lidar_os1_64, 64)
+}
+
+pub fn os_128() -> OusterSettings {
+    made_ready(lidar_os_128, 128)
+}
+
+fn made_ready(
+    call: unsafe extern "C" fn(*mut usize, *mut usize, *mut u16, *mut f32),
+    elevations: usize,
+) -> OusterSettings {
+    let mut settings = OusterSettings {
+        columns_per_packet: 7_777,
+        pixels_per_column: 5_555,
+        lidar_port: 3_333,
+        // One more, which is not to be written.
+        beam_altitudes: vec![1111.0; elevations + 1],
+    };
+    // SAFETY: there is room for the elevations, and the other pointers are of fields of a local.
+    unsafe {
+        call(
+            &mut settings.columns_per_packet,
+            &mut settings.pixels_per_column,
+            &mut settings.lidar_port,
+            settings.beam_altitudes.as_mut_ptr(),
+        );
+    }
+    settings
 }
 
 /// What a call by rank gives back.

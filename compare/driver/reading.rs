@@ -2,6 +2,11 @@
 
 use crate::lent::{Canaries, Lent};
 use crate::ours::Answer;
+use crate::random::Random;
+
+/// The kinds of a point.
+pub const CARTESIAN: u8 = 1;
+pub const POLAR: u8 = 2;
 
 /// What a file means, whatever room there is.
 pub enum Expected {
@@ -15,11 +20,85 @@ pub enum Expected {
     },
 }
 
+impl Expected {
+    /// Of a reader whose points are all polar, and which has no frames.
+    pub fn polar(read: Result<Vec<u32>, u8>) -> Self {
+        match read {
+            Err(number) => Expected::Refused(number),
+            Ok(bits) => Expected::Read {
+                kinds: vec![POLAR; bits.len() / 3],
+                bits,
+                frames: 0,
+            },
+        }
+    }
+}
+
 /// The lengths of the two lent slices.
 #[derive(Clone, Copy)]
 pub struct Room {
     pub numbers: usize,
     pub kinds: usize,
+}
+
+/// The exact room, more than needed, and too little in one slice or both. A file that is refused
+/// gets the same rooms: its refusal comes before any look at the room.
+pub fn rooms(random: &mut Random, points: usize) -> Vec<Room> {
+    let room = |numbers, kinds| Room { numbers, kinds };
+    let numbers = 3 * points;
+    let some = random.within(1, 40);
+    let mut rooms = vec![
+        room(numbers, points),
+        room(numbers + some, points),
+        room(numbers, points + some),
+        room(numbers + some, points + random.within(1, 40)),
+    ];
+    if points > 0 {
+        rooms.extend([
+            room(numbers - 1, points),
+            room(random.below(numbers), points),
+            room(0, points),
+            room(numbers, points - 1),
+            room(numbers, random.below(points)),
+            room(numbers, 0),
+            room(numbers - 1, points + some),
+            room(numbers + some, points - 1),
+            room(random.below(numbers), random.below(points)),
+            room(0, 0),
+        ]);
+    }
+    rooms
+}
+
+/// The exact room and some others.
+fn some_rooms(random: &mut Random, points: usize) -> Vec<Room> {
+    let all = rooms(random, points);
+    vec![
+        all[0],
+        random.pick(&all),
+        random.pick(&all),
+        random.pick(&all),
+    ]
+}
+
+/// Holds every call to what is expected, in some rooms.
+pub fn hold_all(
+    calls: &[Call],
+    canaries: &mut Canaries,
+    data: &[u8],
+    expected: &Expected,
+    random: &mut Random,
+) -> Result<(), String> {
+    let points = match expected {
+        Expected::Refused(_) => random.below(3),
+        Expected::Read { kinds, .. } => kinds.len(),
+    };
+    for call in calls {
+        for room in some_rooms(random, points) {
+            call.hold(canaries, data, room, expected)?;
+        }
+    }
+    Ok(())
 }
 
 /// A call of ours, in one of its two forms.

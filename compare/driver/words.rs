@@ -2,6 +2,7 @@
 //! ours. It stands in for an oracle where the original has none: the savefile reading, and a walk that
 //! starts at any place.
 
+use crate::ours::OusterSettings;
 use std::ops::Range;
 
 #[derive(Clone, Copy, PartialEq, Eq)]
@@ -69,4 +70,21 @@ fn payload_in(record: &[u8], reading: Reading, port: u16) -> Option<usize> {
         && payload < record.len()
         && (port == 0 || u16_at(udp + 2) == port);
     taken.then_some(payload)
+}
+
+/// A copy of each payload.
+pub fn copies(data: &[u8], reading: Reading, port: u16) -> Vec<Vec<u8>> {
+    let places = payloads(data, reading, port, 0);
+    places
+        .into_iter()
+        .map(|place| data[place].to_vec())
+        .collect()
+}
+
+/// Refusal 2.
+pub fn bad_settings(settings: &OusterSettings) -> bool {
+    let beams = settings.pixels_per_column;
+    ![16, 32, 64, 128].contains(&beams)
+        || !(1..=64).contains(&settings.columns_per_packet)
+        || settings.beam_altitudes.len() < beams
 }

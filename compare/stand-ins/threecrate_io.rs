@@ -30,5 +30,49 @@ pub mod places {
     }
 }
 
+/// Whether each Livox point is polar. `compare/run` has it noted here.
+pub mod kinds {
+    use std::cell::RefCell;
+
+    thread_local! {
+        static POLAR: RefCell<Vec<bool>> = const { RefCell::new(Vec::new()) };
+    }
+
+    pub fn note(polar: bool) {
+        POLAR.with_borrow_mut(|noted| noted.push(polar));
+    }
+
+    /// Those noted since the last time.
+    pub fn take() -> Vec<bool> {
+        POLAR.take()
+    }
+}
+
+/// How many Livox frames are entered. `compare/run` has them counted here.
+pub mod frames {
+    use std::cell::Cell;
+
+    /// From this place on the sums of the original wrap, and it reads the start of the file.
+    const WRAPS: usize = usize::MAX - 7;
+
+    thread_local! {
+        static ENTERED: Cell<usize> = const { Cell::new(0) };
+    }
+
+    /// Counts a frame, unless it lies where the original is not asked.
+    pub fn enter(place: usize) -> bool {
+        if place >= WRAPS {
+            return false;
+        }
+        ENTERED.set(ENTERED.get() + 1);
+        true
+    }
+
+    /// Those counted since the last time.
+    pub fn take() -> usize {
+        ENTERED.take()
+    }
+}
+
 // The original, which the build puts beside this file. It is no part of the repository.
 pub mod lidar;

@@ -1,0 +1,105 @@
+//! Livox: both forms, by value and by pattern.
+
+use crate::lent::Canaries;
+use crate::livox_files::{self, Form};
+use crate::long::{untouched, TOO_LONG};
+use crate::original::Original;
+use crate::ours::{self, Answer};
+use crate::random::Random;
+use crate::reading::{hold_all, refusal, Call, Expected, Room};
+use crate::tally::Tally;
+
+const LVX: [Call; 2] = [
+    Call::Bits("lidar_read_lvx_bits", &ours::read_lvx_bits),
+    Call::Floats("lidar_read_lvx", &ours::read_lvx),
+];
+
+const LVX2: [Call; 2] = [
+    Call::Bits("lidar_read_lvx2_bits", &ours::read_lvx2_bits),
+    Call::Floats("lidar_read_lvx2", &ours::read_lvx2),
+];
+
+pub fn compare(original: &Original, form: Form, seed: u64, files: u64) -> Tally {
+    let (reader, calls) = match form {
+        Form::Lvx => ("lvx", &LVX),
+        Form::Lvx2 => ("lvx2", &LVX2),
+    };
+    let mut canaries = Canaries::new();
+    let mut tally = Tally::new(reader, seed);
+    for case in 0..files {
+        let data = livox_files::file(&mut Random::of_case(seed, case), case, form);
+        tally.file(case, &data, |data| {
+            // A generator of its own, so that a shorter file is tried in the same way.
+            let mut random = Random::of_case(!seed, case);
+            let expected = match original.read_livox(form, data) {
+                Err(number) => Expected::Refused(number),
+                Ok((bits, kinds, frames)) => Expected::Read {
+                    bits,
+                    kinds,
+                    frames,
+                },
+            };
+            // A file's bytes may start at any address. A walk whose place wraps around would read what
+            // lies before them.
+            let start = 32 + random.below(16);
+            let placed = [&vec![0; start], data].concat();
+            hold_all(
+                calls,
+                &mut canaries,
+                &placed[start..],
+                &expected,
+                &mut random,
+            )
+        });
+    }
+    tally.beside("the lengths around refusal 1", long_data(form, calls));
+    tally
+}
+
+/// One frame, which ends the walk. The original has no such limit.
+fn long_data(form: Form, calls: &[Call]) -> Result<(), String> {
+    let Some(data) = untouched(TOO_LONG + 1) else {
+        eprintln!("livox: no {TOO_LONG} bytes to be had, so refusal 1 is left out");
+        return Ok(());
+    };
+    let base = match form {
+        Form::Lvx => {
+            data[..10].copy_from_slice(b"livox_tech");
+            data[20..24].copy_from_slice(&0xAC0E_A767u32.to_le_bytes());
+            29
+        }
+        Form::Lvx2 => {
+            data[..4].copy_from_slice(&0x2020_0903u32.to_le_bytes());
+            data[8..12].copy_from_slice(&28u32.to_le_bytes());
+            28
+        }
+    };
+    data[base + 8..base + 16].fill(0xFF);
+    let one_frame = Answer {
+        number: 0,
+        points: 0,
+        frames: 1,
+    };
+    let room = Room {
+        numbers: 5,
+        kinds: 2,
+    };
+    for (length, answer) in [
+        (TOO_LONG - 1, one_frame),
+        (TOO_LONG, refusal(1)),
+        (TOO_LONG + 1, refusal(1)),
+    ] {
+        for call in calls {
+            call.hold_to(
+                &mut Canaries::new(),
+                &data[..length],
+                room,
+                answer,
+                &[],
+                &[],
+            )
+            .map_err(|what| format!("{length} bytes: {what}"))?;
+        }
+    }
+    Ok(())
+}
