@@ -1,5 +1,5 @@
--- The laws of packages, frames and steps.
-pub mod Frames
-pub mod Header
+-- The laws of packages, of frames and of the steps over them.
 pub mod Packages
+pub mod Frames
+pub mod Events
 mod Steps

@@ -1,7 +1,4 @@
--- What the frames and packages of a Livox file are, from a form's fields up.
-pub mod Form
-pub mod Stored
+-- What the frames and packages of a Livox file are, and one step of the walk over them.
 pub mod Packages
 pub mod Frames
-pub mod FramePackages
 pub mod Steps

@@ -1,0 +1,2 @@
+-- The two Livox forms, their data types and encodings.
+pub mod Form
