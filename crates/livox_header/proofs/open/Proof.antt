@@ -1,11 +1,13 @@
--- `livox::open` meets its contract, form by form. Assumes nothing.
-use Rattle.livox.proofs.Checks.{too-long}
+-- `livox_header::open` meets its contract, form by form. Assumes nothing.
+use Rattle.livox_header.proofs.Checks.{too-long}
+use Rattle.livox_header.specs.Header.{opening}
 use borrow.Author.Needs.{needs}
-use Rattle.livox.proofs.open.open.Statement.{statement}
-use Rattle.livox.proofs.open.open.Tie as tie
+use Rattle.livox_header.proofs.open.Statement.{statement}
+use Rattle.livox_header.proofs.open.Tie as tie
 
 returns : tie.Need-returns
-returns c = (rw (too-long (c .before .before .args .form) (c .before .before .args .«data» .now) (c .if1 .taken)), tt)
+unfolding opening
+returns c = rw (too-long (c .before .before .args .form) (c .before .before .args .«data» .now) (c .if1 .taken))
 
 enum-told : tie.Need-enum-told
 enum-told c = search needs
@@ -20,9 +22,11 @@ open-lvx2-requires : tie.Need-open-lvx2-requires
 open-lvx2-requires c κs = search needs
 
 returns-2 : tie.Need-returns-2
+unfolding opening
 returns-2 c = rw (c .before .enum-told .given .1) (c .open-lvx .ensures)
 
 returns-3 : tie.Need-returns-3
+unfolding opening
 returns-3 c = rw (c .before .enum-told2 .given .1) (c .open-lvx2 .ensures)
 
 pub open-spec : {M : Type 1} → statement M

@@ -1,0 +1,2 @@
+-- What the header of a Livox file tells.
+pub mod Header
