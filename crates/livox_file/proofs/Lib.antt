@@ -1,0 +1,4 @@
+-- The laws of a whole file.
+pub mod Told
+pub mod Counts
+pub mod Reading

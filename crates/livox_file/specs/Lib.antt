@@ -1,0 +1,2 @@
+-- What a Livox file means.
+pub mod Livox
