@@ -2,3 +2,5 @@
 pub mod Told
 pub mod Counts
 pub mod Reading
+pub mod Forms
+pub mod Laws
