@@ -2,5 +2,6 @@
 pub mod Told
 pub mod Counts
 pub mod Reading
+pub mod Progress
 pub mod Forms
 pub mod Laws
