@@ -3,8 +3,8 @@
 use c_form::tell;
 ghost use mathlib.Core.Path.{_≡_};
 ghost use Rattle.points.specs.ReadInto.{outcome};
-ghost use Rattle.livox.specs.Livox.{readLivox, readLivoxBits};
-ghost use Rattle.livox_walk.specs.declared.form.Form.the-variants.{Lvx, Lvx2};
+ghost use Rattle.livox_file.specs.Livox.{readLivox, readLivoxBits};
+ghost use Rattle.livox_form.specs.declared.Form.the-variants.{Lvx, Lvx2};
 
 #[no_mangle]
 pub extern "C" fn lidar_read_lvx(
