@@ -1,6 +1,6 @@
 -- How C names the Ouster settings.
 use Prim.Native.Nat.{ℕ}
-use Rattle.ouster.specs.declared.settings.OusterSettings.{OusterSettings}
+use Rattle.ouster_settings.specs.declared.OusterSettings.{OusterSettings}
 
 -- The fields of the settings, one by one.
 abbrev pub settingsOf : ℕ → ℕ → ℕ → OusterSettings

@@ -7,7 +7,7 @@ ghost use mathlib.Core.Path.{_≡_};
 ghost use Rattle.points.specs.ReadInto.{outcome};
 ghost use Rattle.capture.specs.Savefile.{usual};
 ghost use Rattle.ouster.specs.Ouster.{readOuster};
-ghost use Rattle.ouster.specs.Settings.{os1-64, os-128, os1-64-elevations, os-128-elevations};
+ghost use Rattle.ouster_settings.specs.Settings.{os1-64, os-128, os1-64-elevations, os-128-elevations};
 ghost use Rattle.c_form.specs.Reading.{readingOf};
 ghost use Rattle.c_ouster.specs.Ouster.{settingsOf};
 

@@ -3,3 +3,4 @@ pub mod Joined
 pub mod Opening
 pub mod Records
 pub mod Steps
+pub mod Walking

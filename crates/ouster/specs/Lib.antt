@@ -1,4 +1,2 @@
--- What Ouster packets and captures of them mean, and the settings that they are read with.
+-- What an Ouster capture means.
 pub mod Ouster
-pub mod Packet
-pub mod Settings

@@ -1,9 +1,8 @@
 // The Ouster reader: polar points from captures of the legacy packet profile.
 
-mod packet;
 mod read;
-mod settings;
 
+pub use ouster_packet::decode_ouster_packet;
+pub use ouster_settings::OusterSettings;
 pub use read::read_ouster;
 pub use read::read_ouster_as;
-pub use settings::OusterSettings;

@@ -1,4 +1,2 @@
--- What a Velodyne capture means: the models, one packet, and the whole capture.
-pub mod Model
-pub mod Packet
+-- What a Velodyne capture means.
 pub mod Velodyne

@@ -1,8 +1,8 @@
 -- `c_velodyne::lidar_detect_velodyne_model` meets its contract: each arm gives the number of the model that was detected. Assumes nothing.
 use mathlib.Core.Path.{_≡_, sym, ap, _∙_}
 use borrow.Author.Needs.{needs}
-use Rattle.velodyne.specs.declared.model.VelodyneModel.{VelodyneModel}
-use Rattle.velodyne.specs.Model.{modelOf}
+use Rattle.velodyne_angles.specs.declared.model.VelodyneModel.{VelodyneModel}
+use Rattle.velodyne_angles.specs.Model.{modelOf}
 use Rattle.c_velodyne.specs.Velodyne.{modelNumber}
 use Rattle.c_velodyne.proofs.lidar_detect_velodyne_model.Statement.{statement}
 use Rattle.c_velodyne.proofs.lidar_detect_velodyne_model.Tie as tie

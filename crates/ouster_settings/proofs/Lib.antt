@@ -1,0 +1,2 @@
+-- What settings that are not refused say of themselves.
+pub mod Bounds

@@ -1,0 +1,2 @@
+-- The settings of Ouster sensors.
+pub mod Settings

@@ -1,2 +1,0 @@
--- The laws that stand for the definitions of `specs/` in the proofs of this crate.
-mod Blocks
