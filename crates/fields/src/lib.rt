@@ -200,7 +200,7 @@ fn to_i16(n: u16) -> i16
     }
 }
 
-fn to_i32(n: u32) -> i32
+pub fn to_i32(n: u32) -> i32
     ensures { λ r. ⌜ r ≡ signed 32 n ⌝ }
 {
     if n < 0x8000_0000 {

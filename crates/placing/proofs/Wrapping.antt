@@ -1,0 +1,53 @@
+-- The pulses of two counts are the difference of the whole counts behind them, where those are less than 2 ^ 31 apart: the low 32 bits of a difference are those of
+-- the low 32 bits' difference (`low-difference`), and a small number is what its low 32 bits say, read with their sign (`small-signed`). Assumes nothing.
+use Prim.Native.Nat.{ℕ, zero, suc, _+_, _-_, _%_, _^_, _≤_, _<_, suc-le-suc}
+use native.Mathlib.Nat.{lt-of-not-le}
+use native.Mathlib.Decide.{decLe}
+use native.Mathlib.Omega.{arith}
+use mathlib.Core.Path.{_≡_, refl, sym, ap, _∙_}
+use mathlib.Core.Bool.{cond}
+use lib.Dec.{ltb}
+use lib.IntN.{ℤ, pos, negsuc, natAbs, subℕ, _-ℤ_, +ℤ-idr}
+use borrow.Author.Tests.{lt-ltb, le-ltb}
+use Rattle.fields.specs.Number.{signed}
+use Rattle.placing.specs.Placing.{pulses}
+use Rattle.placing.specs.Accuracy.{low32}
+
+-- m − n of two counts from 0 on, and of two below 0, either way
+low-above : (m n : ℕ) → (m % 2 ^ 32 + (2 ^ 32 - n % 2 ^ 32)) % 2 ^ 32 ≡ low32 (subℕ m n)
+low-above m n =
+    elim (decLe n m) [
+      | yes h ↦ rw (le-ltb m n h) (omega arith)
+      | no h ↦ rw (lt-ltb m n (lt-of-not-le h)) (omega (arith, lt-of-not-le h))
+    ]
+
+low-below : (m n : ℕ) → (2 ^ 32 - 1 - m % 2 ^ 32 + (2 ^ 32 - (2 ^ 32 - 1 - n % 2 ^ 32))) % 2 ^ 32 ≡ low32 (subℕ (suc n) (suc m))
+low-below m n =
+    elim (decLe m n) [
+      | yes h ↦ rw (le-ltb (suc n) (suc m) (suc-le-suc h)) (omega arith)
+      | no h ↦ rw (lt-ltb (suc n) (suc m) (suc-le-suc (lt-of-not-le h))) (omega (arith, lt-of-not-le h))
+    ]
+
+low-difference : (a b : ℤ) → (low32 a + (2 ^ 32 - low32 b)) % 2 ^ 32 ≡ low32 (a -ℤ b)
+low-difference (pos m) (pos zero) = omega arith
+low-difference (pos m) (pos (suc n)) = low-above m (suc n)
+low-difference (pos m) (negsuc n) = omega arith
+low-difference (negsuc m) (pos zero) = rw (+ℤ-idr (negsuc m)) (omega arith)
+low-difference (negsuc m) (pos (suc n)) = omega arith
+low-difference (negsuc m) (negsuc n) = low-below m n
+
+small-signed : (z : ℤ) → natAbs z < 2 ^ 31 → signed 32 (low32 z) ≡ z
+unfolding signed
+small-signed (pos n) h =
+    let same : n % 2 ^ 32 ≡ n = omega arith in
+    rw (same, lt-ltb n (2 ^ 31) h)
+small-signed (negsuc n) h =
+    let same : n % 2 ^ 32 ≡ n = omega arith in
+    let high : 2 ^ 31 ≤ 2 ^ 32 - 1 - n = omega arith in
+    let less : 2 ^ 32 - 1 - n < 2 ^ 32 = omega arith in
+    let back : 2 ^ 32 - suc (2 ^ 32 - 1 - n) ≡ n = omega arith in
+    rw (same, le-ltb _ _ high, lt-ltb _ _ less) (ap negsuc back)
+
+pub pulses-are : (a b : ℤ) → natAbs (a -ℤ b) < 2 ^ 31 → pulses (low32 a) (low32 b) ≡ a -ℤ b
+unfolding pulses
+pulses-are a b h = ap (signed 32) (low-difference a b) ∙ small-signed (a -ℤ b) h

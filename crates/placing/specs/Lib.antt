@@ -1,0 +1,3 @@
+-- Placing a point on the belt, and what it promises.
+pub mod Accuracy
+pub mod Placing
