@@ -7,7 +7,7 @@ use units::BeltPulses;
 ghost use mathlib.Core.Path.{_≡_};
 ghost use mathlib.Core.List.{[]};
 ghost use mathlib.Core.Option.{some};
-ghost use Prim.Native.Nat.{_^_, _≤_, _<_};
+ghost use Prim.Native.Nat.{_+_, _-_, _%_, _^_, _≤_, _<_};
 ghost use lib.IntN.{pos, _*ℤ_};
 ghost use lib.Signed.{mag};
 ghost use Rattle.livox_stored.specs.Stored.{ofStoredReading};
@@ -55,7 +55,13 @@ pub fn place(
 pub fn pulses(count: BeltCount, datum: BeltDatum) -> BeltPulses
     ensures { λ r. ⌜ r .0 ≡ pulses (count .0) (datum .0) ⌝ }
 {
-    BeltPulses(fields::to_i32(std::num::wrapping_sub_u32(count.0, datum.0)))
+    BeltPulses(fields::to_i32(wrapped(count.0, datum.0)))
+}
+
+fn wrapped(count: u32, datum: u32) -> u32
+    ensures { λ r. ⌜ r ≡ (count + (2 ^ 32 - datum)) % 2 ^ 32 ⌝ }
+{
+    std::num::wrapping_sub_u32(count, datum)
 }
 
 fn along_belt(reading: StoredReading) -> Along
