@@ -1,0 +1,2 @@
+-- How C is told a placing.
+pub mod Placed
