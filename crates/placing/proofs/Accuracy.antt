@@ -1,11 +1,10 @@
 -- Demand 3 holds of every placing. The pulses are those of the whole counts (`pulses-are`), the checks let exactly the window through, and inside it the distance is close
 -- (`metres-within`). Assumes nothing.
-use Prim.Native.Nat.{ℕ, _≤_}
-use native.Mathlib.Omega.{arith}
+use Prim.Native.Nat.{ℕ, _+_, _%_, _^_, _≤_, _<_}
 use mathlib.Core.Path.{_≡_, refl, sym, ap, _∙_, subst}
 use mathlib.Core.Bool.{Bool, true, false}
 use mathlib.Core.List.{[]}
-use mathlib.Core.Option.{some}
+use mathlib.Core.Option.{Option, none, some}
 use lib.IntN.{ℤ, _-ℤ_}
 use borrow.Author.Tests.{le-ltb}
 use Rattle.points.specs.ReadInto.{firstRefusal}
@@ -14,13 +13,13 @@ use Rattle.placing.specs.Placing.{Asked, badPulseLength, checksOf, exact
 use Rattle.placing.specs.Accuracy.{Accurate, low32, PlacedAt}
 use Rattle.placing.proofs.Checks.{at, beyond, micrometres, past-window, window, within}
 use Rattle.placing.proofs.Rounding.{metres-within}
-use Rattle.placing.proofs.Wrapping.{pulses-are}
+use Rattle.placing.proofs.Wrapping.{moved-alike, pulses-are}
 
--- A file that its checks let through, and the point of a rank in it, are placed as that point is.
-pub let-through : (asked : Asked) (x : ℤ) → Numbered (asked .checks) → firstRefusal (asked .checks) ≡ 0 → asked .micrometres ≡ some x → (count datum pulseLength : ℕ)
-    → place (at x count datum pulseLength) count datum pulseLength ≡ place asked count datum pulseLength
-unfolding place checksOf exactOf
-let-through asked x numbered passes point count datum pulseLength = rw (point, first-passes (asked .checks) _ numbered passes)
+-- In a file that its checks let through, a point is placed as by its reading.
+pub let-through : (asked : Asked) → Numbered (asked .checks) → firstRefusal (asked .checks) ≡ 0 → (count datum pulseLength : ℕ)
+    → place (record { checks = []; micrometres = asked .micrometres }) count datum pulseLength ≡ place asked count datum pulseLength
+unfolding place checksOf
+let-through asked numbered passes count datum pulseLength = rw (first-passes (asked .checks) _ numbered passes)
 
 good-length : (length : ℕ) → 1 ≤ length → length ≤ 1000 → badPulseLength length ≡ false
 good-length length l h = rw (le-ltb length 1 l, le-ltb 1000 length h)
@@ -35,7 +34,7 @@ pub accurate : (asked : Asked) → Numbered (asked .checks) → (count datum pul
 accurate asked numbered count datum pulseLength = record {
   accurate = λ passes x point wholeCount wholeDatum c d apart l h.
       let pulses-is : pulses count datum ≡ wholeCount -ℤ wholeDatum = rw (c, d) (pulses-are wholeCount wholeDatum apart) in
-      subst (PlacedAt (exact x (wholeCount -ℤ wholeDatum) pulseLength)) (let-through asked x numbered passes point count datum pulseLength)
+      subst (PlacedAt (exact x (wholeCount -ℤ wholeDatum) pulseLength)) (ap (λ m. place (record { checks = []; micrometres = m }) count datum pulseLength) (sym point) ∙ let-through asked numbered passes count datum pulseLength)
       (at-distance x _ count datum pulseLength (ap (λ (z : ℤ). exact x z pulseLength) pulses-is) (good-length pulseLength l h) _ refl);
 }
 
@@ -43,3 +42,13 @@ accurate asked numbered count datum pulseLength = record {
 pub both : (asked : Asked) → Numbered (asked .checks) → (count datum pulseLength : ℕ) {outcome : Outcome} → outcome ≡ place asked count datum pulseLength
     → (outcome ≡ place asked count datum pulseLength) × Accurate asked count datum pulseLength outcome
 both asked numbered count datum pulseLength e = (e, subst (Accurate asked count datum pulseLength) (sym e) (accurate asked numbered count datum pulseLength))
+
+-- A count and a datum moved by the same amount change nothing.
+pub placed-alike : (asked : Asked) (count datum pulseLength by : ℕ) → count < 2 ^ 32 → datum < 2 ^ 32
+    → place asked ((count + by) % 2 ^ 32) ((datum + by) % 2 ^ 32) pulseLength ≡ place asked count datum pulseLength
+unfolding place checksOf exactOf
+placed-alike asked count datum pulseLength by c d = rw (exact-alike (asked .micrometres))
+  where
+    exact-alike : (m : Option ℤ) → exactOf m ((count + by) % 2 ^ 32) ((datum + by) % 2 ^ 32) pulseLength ≡ exactOf m count datum pulseLength
+    exact-alike (some x) = ap (λ (z : ℤ). exact x z pulseLength) (moved-alike count datum by c d)
+    exact-alike none = refl

@@ -1,6 +1,6 @@
 -- The laws that stand for the definitions of `specs/` in the proofs of this crate and of its callers.
 pub mod Accuracy
-mod Checks
+pub mod Checks
 mod Rounding
 mod Whole
 mod Wrapping

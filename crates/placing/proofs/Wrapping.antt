@@ -51,3 +51,10 @@ small-signed (negsuc n) h =
 pub pulses-are : (a b : ℤ) → natAbs (a -ℤ b) < 2 ^ 31 → pulses (low32 a) (low32 b) ≡ a -ℤ b
 unfolding pulses
 pulses-are a b h = ap (signed 32) (low-difference a b) ∙ small-signed (a -ℤ b) h
+
+-- A count and a datum moved by the same amount have the same pulses.
+pub moved-alike : (count datum by : ℕ) → count < 2 ^ 32 → datum < 2 ^ 32 → pulses ((count + by) % 2 ^ 32) ((datum + by) % 2 ^ 32) ≡ pulses count datum
+unfolding pulses
+moved-alike count datum by c d =
+    let same : ((count + by) % 2 ^ 32 + (2 ^ 32 - (datum + by) % 2 ^ 32)) % 2 ^ 32 ≡ (count + (2 ^ 32 - datum)) % 2 ^ 32 = omega arith in
+    ap (signed 32) same

@@ -1,0 +1,2 @@
+-- The laws of placing by file and rank.
+pub mod Ranked

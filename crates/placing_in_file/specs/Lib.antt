@@ -1,0 +1,2 @@
+-- Placing the point of a rank in a Livox file.
+pub mod InFile
