@@ -72,7 +72,7 @@ fn tell_place(
     tell(placed, metres)
 }
 
-fn tell(placed: Placed, metres: &mut f32) -> u8
+pub fn tell(placed: Placed, metres: &mut f32) -> u8
     ensures { λ r. ⌜ (r, now (metres .exit)) ≡ tellPlaced (ofPlaced placed) (now (metres .entry)) ⌝ }
 {
     match placed {

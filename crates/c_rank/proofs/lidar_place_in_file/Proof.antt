@@ -1,0 +1,30 @@
+-- `c_rank::lidar_place_in_file` meets its contract: what is told is what `place_in_file` answers. Assumes nothing.
+use mathlib.Core.Path.{_≡_, ap, _∙_}
+use borrow.Author.Needs.{needs}
+use Rattle.livox_form.specs.declared.Form.{Form}
+use Rattle.placing.specs.Placing.{place}
+use Rattle.placing_in_file.specs.InFile.{byRank}
+use Rattle.c_placing.specs.Placed.{tellPlaced}
+use Rattle.c_rank.proofs.lidar_place_in_file.Statement.{statement}
+use Rattle.c_rank.proofs.lidar_place_in_file.Tie as tie
+
+form-of-requires : tie.Need-form-of-requires
+form-of-requires c κs = search needs
+
+place-in-file-requires : tie.Need-place-in-file-requires
+place-in-file-requires c κs = search needs
+
+tell-requires : tie.Need-tell-requires
+tell-requires c κs = search needs
+
+returns : tie.Need-returns
+returns c =
+    let start = c .before .before .before .before .before in
+    c .tell .ensures
+    ∙ ap (λ outcome. tellPlaced outcome (start .args .metres .now))
+    (c .before .before .place-in-file .ensures .0
+    ∙ ap (λ (form : Form). place (byRank form (start .args .«data» .now) (start .args .rank)) (start .args .count) (start .args .datum) (start .args .pulse-length)) (c .before .before .before .form-of .ensures))
+
+pub lidar-place-in-file-spec : {M : Type 1} → statement M
+lidar-place-in-file-spec =
+    tie.close (tie.spec form-of-requires place-in-file-requires tell-requires returns)

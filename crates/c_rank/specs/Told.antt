@@ -1,0 +1,23 @@
+-- How C names the form of a file, and is told a stored reading: a number for its kind, and its three numbers. Without a reading all are 0.
+use Prim.Native.Nat.{ℕ}
+use mathlib.Core.Bool.{Bool, true, false}
+use mathlib.Core.Option.{Option, none, some}
+use lib.IntN.{ℤ, pos}
+use Rattle.livox_form.specs.declared.Form.{Form}
+use Rattle.livox_form.specs.declared.Form.the-variants.{Lvx, Lvx2}
+use Rattle.livox_stored.specs.Stored.{Stored, millimetres, tenMillimetres, spherical, float}
+
+abbrev pub formOf : Bool → Form
+formOf true = Lvx2
+formOf false = Lvx
+
+pub data Told : Type 0 where
+  -- the kind, and the three numbers
+  told : ℕ → ℤ → ℤ → ℤ → Told
+
+abbrev pub tellStored : Option Stored → Told
+tellStored none = told 0 (pos 0) (pos 0) (pos 0)
+tellStored (some (millimetres x y z)) = told 1 x y z
+tellStored (some (tenMillimetres x y z)) = told 2 x y z
+tellStored (some (spherical depth zenith azimuth)) = told 3 (pos depth) (pos zenith) (pos azimuth)
+tellStored (some (float x y z)) = told 4 (pos x) (pos y) (pos z)
