@@ -188,6 +188,50 @@ bool lidar_next_payload_as(const uint8_t *data, size_t data_len, bool savefile,
 bool lidar_next_payload(const uint8_t *data, size_t data_len,
                         uint16_t port, size_t *at, size_t *start, size_t *len);
 
+/* ---- placing a Livox point on the belt
+
+   count          the belt encoder's count now, and
+   datum          the count when the point was seen; both wrap at 2^32
+   pulse_length   how far the belt moves in a pulse: 1 to 1000 micrometres
+   metres         takes the distance along the belt. A refusal leaves it as it was
+
+   The distance is within half a micrometre of the exact one, however often the count has wrapped,
+   as long as the belt moved by less than 2^31 pulses. Beyond 16 m either way it is refused with
+   LIDAR_OUTSIDE_WINDOW. */
+
+/* Places a point by its stored x: in millimetres (LVX and LVX2 type 1), or in counts of ten
+   millimetres (LVX2 type 0). */
+uint8_t lidar_place_millimetres(int32_t x, uint32_t count, uint32_t datum,
+                                uint32_t pulse_length, float *metres);
+
+uint8_t lidar_place_ten_millimetres(int16_t x, uint32_t count, uint32_t datum,
+                                    uint32_t pulse_length, float *metres);
+
+/* Places the point of a rank, counted from 0 among all points of a Livox file. The file's own
+   refusals come first; a point that is spherical or of floats, or none of that rank, is
+   LIDAR_NOT_PLACEABLE. */
+uint8_t lidar_place_in_file(const uint8_t *data, size_t data_len, bool lvx2, size_t rank,
+                            uint32_t count, uint32_t datum, uint32_t pulse_length,
+                            float *metres);
+
+/* The pulses since the datum, below 0 where the belt ran back. */
+int32_t lidar_pulses(uint32_t count, uint32_t datum);
+
+/* How a stored reading is kept, which says what its three numbers are. */
+enum lidar_stored {
+    LIDAR_NO_READING = 0,
+    LIDAR_MILLIMETRES = 1,      /* x, y, z */
+    LIDAR_TEN_MILLIMETRES = 2,  /* x, y, z in counts of ten millimetres */
+    LIDAR_SPHERICAL = 3,        /* depth in millimetres, zenith angle and azimuth in hundredths of
+                                   a degree */
+    LIDAR_FLOATS = 4            /* x, y, z in metres, each by the 32-bit pattern of its float */
+};
+
+/* Tells the stored reading of a rank of a Livox file. *kind and the three numbers are always written;
+   on a refusal they are 0. No point of that rank is LIDAR_NOT_PLACEABLE. */
+uint8_t lidar_stored_reading(const uint8_t *data, size_t data_len, bool lvx2, size_t rank,
+                             uint8_t *kind, int64_t *first, int64_t *second, int64_t *third);
+
 #ifdef __cplusplus
 }
 #endif
