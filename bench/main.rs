@@ -1,7 +1,11 @@
-//! Times going through all payloads of a capture. `bench/run` builds and runs it.
+//! Times going through all payloads of a capture, and the readers. `bench/run` builds and runs it.
 //!
 //! Arguments: a directory for the capture, the number of rounds.
 
+mod files;
+mod readers;
+
+use files::capture;
 use std::fs;
 use std::hint::black_box;
 use std::path::Path;
@@ -9,7 +13,6 @@ use std::time::Instant;
 use threecrate_io::lidar::payloads_of;
 
 const PORT: u16 = 2368;
-const SIZE: usize = 64_000_000;
 
 extern "C" {
     fn lidar_next_payload_as(
@@ -57,12 +60,35 @@ fn main() {
     for payload in [1206, 64] {
         bench(&file, rounds, payload);
     }
+    readers::bench(rounds);
+}
+
+/// The median of each way's times, run in turn. Every way has to find the same.
+fn medians<T: PartialEq + std::fmt::Debug>(
+    rounds: usize,
+    found: &T,
+    ways: &[(&str, Box<dyn Fn() -> T + '_>)],
+) -> Vec<f64> {
+    let mut times = vec![Vec::new(); ways.len()];
+    for _ in 0..rounds {
+        for ((_, way), times) in ways.iter().zip(&mut times) {
+            let start = Instant::now();
+            let now_found = black_box(way());
+            times.push(start.elapsed().as_secs_f64());
+            assert_eq!(now_found, *found);
+        }
+    }
+    let median = |mut times: Vec<f64>| {
+        times.sort_by(f64::total_cmp);
+        times[times.len() / 2]
+    };
+    times.into_iter().map(median).collect()
 }
 
 fn bench(file: &Path, rounds: usize, payload: usize) {
-    let savefile = capture(payload, [0xd4, 0xc3, 0xb2, 0xa1]);
+    let savefile = capture([0xd4, 0xc3, 0xb2, 0xa1], PORT, same_bytes(payload));
     // The same lengths, with the magic by which the Rust takes them for little-endian.
-    let for_rust = capture(payload, [0xa1, 0xb2, 0xc3, 0xd4]);
+    let for_rust = capture([0xa1, 0xb2, 0xc3, 0xd4], PORT, same_bytes(payload));
     fs::write(file, &savefile).expect("the capture could not be written");
 
     let seen = ours(&for_rust, false);
@@ -90,64 +116,26 @@ fn bench(file: &Path, rounds: usize, payload: usize) {
         }),
     ));
 
-    let mut times = vec![Vec::new(); ways.len()];
-    for _ in 0..rounds {
-        for ((_, way), times) in ways.iter().zip(&mut times) {
-            let start = Instant::now();
-            let found = black_box(way());
-            times.push(start.elapsed().as_secs_f64());
-            assert_eq!(found, seen);
-        }
-    }
+    let times = medians(rounds, &seen, &ways);
     let megabytes = savefile.len() as f64 / 1e6;
     println!(
         "{megabytes:.0} MB, {} payloads of {payload} bytes, medians of {rounds} rounds",
         seen.count
     );
     println!("{:36} {:>8} {:>8} {:>10}", "", "ms", "MB/s", "ours = 1");
-    let median = |times: &Vec<f64>| {
-        let mut times = times.clone();
-        times.sort_by(f64::total_cmp);
-        times[times.len() / 2]
-    };
-    let ours = median(&times[0]);
-    for ((name, _), times) in ways.iter().zip(&times) {
-        let time = median(times);
+    for ((name, _), time) in ways.iter().zip(&times) {
         println!(
             "{name:36} {:8.2} {:8.0} {:10.2}",
             time * 1e3,
             megabytes / time,
-            time / ours
+            time / times[0]
         );
     }
 }
 
-/// A capture of one kind of record, with little-endian lengths.
-fn capture(payload: usize, magic: [u8; 4]) -> Vec<u8> {
-    let mut data = Vec::with_capacity(SIZE);
-    // Version 2.4, no zone, the longest record, Ethernet.
-    data.extend(magic);
-    data.extend([
-        2, 0, 4, 0, 0, 0, 0, 0, 0, 0, 0, 0, 0xff, 0xff, 0, 0, 1, 0, 0, 0,
-    ]);
-    let length = 42 + payload;
-    let mut number = 0u32;
-    while data.len() + 16 + length <= SIZE {
-        number += 1;
-        data.extend(number.to_le_bytes());
-        data.extend([0; 4]);
-        data.extend((length as u32).to_le_bytes());
-        data.extend((length as u32).to_le_bytes());
-        let frame = data.len();
-        data.resize(frame + length, number as u8);
-        let record = &mut data[frame..];
-        record[12..14].copy_from_slice(&[0x08, 0x00]);
-        record[14] = 0x45;
-        record[23] = 17;
-        record[36..38].copy_from_slice(&PORT.to_be_bytes());
-        record[38..40].copy_from_slice(&(payload as u16 + 8).to_be_bytes());
-    }
-    data
+/// Payloads of one byte each time, which differs from record to record.
+fn same_bytes(payload: usize) -> impl FnMut(u32) -> Vec<u8> {
+    move |number| vec![number as u8; payload]
 }
 
 fn ours(data: &[u8], savefile: bool) -> Seen {

@@ -88,14 +88,17 @@ polar() {
     )' '    Point3f::new(r, theta_cdeg as f32 * 0.01_f32, phi_cdeg as f32 * 0.01_f32)'
 }
 
-# Builds the crate threecrate_io from $original. Its stand-in finds the original beside itself.
+# Builds $original as the crate threecrate_io, or under another name. Its stand-in finds the original
+# beside itself.
 build_original() {
-    printf '%s\n' "$original" >"$target/lidar.rs"
-    cp -f compare/stand-ins/threecrate_io.rs "$target/"
+    local name=${1:-threecrate_io}
+    mkdir -p "$target/$name"
+    printf '%s\n' "$original" >"$target/$name/lidar.rs"
+    cp -f compare/stand-ins/threecrate_io.rs "$target/$name/"
     build --crate-type rlib --crate-name byteorder compare/stand-ins/byteorder.rs
     build --crate-type rlib --crate-name threecrate_core compare/stand-ins/threecrate_core.rs
     # Warnings about the original are not ours to act on.
-    build --crate-type rlib --crate-name threecrate_io --cap-lints allow \
+    build --crate-type rlib --crate-name "$name" --cap-lints allow \
         --extern byteorder="$target/libbyteorder.rlib" \
-        --extern threecrate_core="$target/libthreecrate_core.rlib" "$target/threecrate_io.rs"
+        --extern threecrate_core="$target/libthreecrate_core.rlib" "$target/$name/threecrate_io.rs"
 }
