@@ -1,9 +1,11 @@
 -- The calls of which there are worked cases, and what each tells by the definitions that its contract cites.
 use Prim.Native.Nat.{ℕ}
-use mathlib.Core.List.{List, map, flatMap}
-use lib.Ieee.{binary32, ofBits, toBits}
+use mathlib.Core.List.{List, [], _∷_, map, flatMap}
+use lib.Ieee.{binary32, ofBits, toBits, round, ofInt, add, sub, mul, div, lt, le}
 use Rattle.fields.specs.Number.{unsignedAt}
-use Rattle.points.specs.ReadInto.{Outcome, firstRefusal, mapOutcome, over, readInto}
+use Rattle.units.specs.Conversions.{metresOfTwoMillimetres, degreesByDivision}
+use Rattle.points.specs.ReadInto.{Outcome, tooLong, firstRefusal, numberGiven, mapOutcome, over, readInto}
+use Rattle.points.specs.Tabulate.{tabulate, gather}
 use Rattle.record_rule.specs.declared.reading.Reading.{Reading}
 use Rattle.capture.specs.declared.walk.Place.{Place}
 use Rattle.record_rule.specs.Ethernet.{etherType, ipStart}
@@ -11,8 +13,14 @@ use Rattle.record_rule.specs.Ipv4.{version, ihl, protocol, udpStart}
 use Rattle.record_rule.specs.Udp.{destinationPort, payloadStart}
 use Rattle.record_rule.specs.Record.{verdict}
 use Rattle.capture.specs.Savefile
+use Rattle.capture.specs.Payloads
 use Rattle.capture.specs.Payloads.{opening, placesFrom, bytesAt}
+use Rattle.capture.specs.Joined.{noPayload, pointsIn}
 use Rattle.kitti.specs.Kitti
+use Rattle.velodyne_angles.specs.Azimuth.{halfStepBetween, turned}
+use Rattle.velodyne_angles.specs.Model.{vlp16Vert, hdl32eVert, linear, linearElevations}
+use Rattle.velodyne_packet.specs.Packet
+use Rattle.velodyne.specs.Velodyne
 
 -- How a reader of float records lays numbers: as values into a slice of f32, or as their patterns into a slice of u32.
 pub data Form : Type 0 where
@@ -24,6 +32,9 @@ pub data Call : Type 0 where
   kitti : Form → List ℕ → List ℕ → List ℕ → Call
   -- Going through the payloads of a capture: the reading, the port, of which 0 is every one, and the file.
   capture : Reading → ℕ → List ℕ → Call
+  -- One Velodyne payload, or a Velodyne capture with its reading; then what the slices of numbers and of kinds hold at entry.
+  velodynePacket : List ℕ → List ℕ → List ℕ → Call
+  velodyne : Reading → List ℕ → List ℕ → List ℕ → Call
   -- The length that the first record of a capture states: the reading, and the file.
   firstLength : Reading → List ℕ → Call
 
@@ -45,8 +56,10 @@ pub data Told : Type 0 where
 
 -- The unfolding line names all that these definitions compute by, so that a proof unfolds `tell` alone.
 unfoldable pub tell : Call → Told
-unfolding flatMap ofBits toBits unsignedAt over firstRefusal readInto Kitti.checks Kitti.points Savefile.bigEndian Savefile.checks etherType ipStart version ihl protocol udpStart destinationPort payloadStart verdict opening placesFrom
+unfolding flatMap ofBits toBits unsignedAt over firstRefusal readInto Kitti.checks Kitti.points Savefile.bigEndian Savefile.checks etherType ipStart version ihl protocol udpStart destinationPort payloadStart verdict opening placesFrom Payloads.payloads Savefile.fileChecks numberGiven noPayload pointsIn tabulate gather round ofInt add sub mul div lt le metresOfTwoMillimetres degreesByDivision halfStepBetween turned vlp16Vert hdl32eVert linear linearElevations Packet.packetPoints Velodyne.checks
 tell (kitti byValue bytes numbers kinds) = reading (mapOutcome (toBits binary32) (Kitti.readKitti bytes (map (ofBits binary32) numbers) kinds))
 tell (kitti byPattern bytes numbers kinds) = reading (Kitti.readKittiBits bytes numbers kinds)
 tell (capture r port bytes) = payloads (opening r port bytes .0) (map (payloadAt bytes) (flatMap (λ cursor. placesFrom cursor bytes) (opening r port bytes .1)))
+tell (velodynePacket bytes numbers kinds) = reading (mapOutcome (toBits binary32) (readInto (tooLong bytes ∷ []) (Packet.packetPoints bytes) 0 (map (ofBits binary32) numbers) kinds))
+tell (velodyne r bytes numbers kinds) = reading (mapOutcome (toBits binary32) (Velodyne.readVelodyne r bytes (map (ofBits binary32) numbers) kinds))
 tell (firstLength r bytes) = lengthStated (Savefile.capturedAt (Savefile.orderOf (Savefile.bigEndian r bytes)) bytes 24)

@@ -8,11 +8,11 @@ use Rattle.claims.specs.Call.{capture, firstLength, payload, payloads, l
 use Rattle.claims.specs.Row.{Row, _tells_, dump}
 
 -- File headers, by the magic's first byte as it stands in the file: version 2.4, Ethernet. For microseconds, then for nanoseconds.
-fileD4 : List ℕ
+unfoldable pub fileD4 : List ℕ
 unfolding dump
 fileD4 = dump 24 0xd4c3b2a1_02000400_00000000_00000000_00000400_01000000
 
-fileA1 : List ℕ
+unfoldable pub fileA1 : List ℕ
 unfolding dump
 fileA1 = dump 24 0xa1b2c3d4_00020004_00000000_00000000_00040000_00000001
 
@@ -49,7 +49,7 @@ record42 : List ℕ
 unfolding header addresses nothing
 record42 = header 42 ++ addresses ++ nothing
 
-record43 : List ℕ
+unfoldable pub record43 : List ℕ
 unfolding header addresses oneByte
 record43 = header 43 ++ addresses ++ oneByte
 

@@ -3,7 +3,8 @@ use mathlib.Core.List.{List, _++_}
 use Rattle.claims.specs.Row.{Row}
 use Rattle.claims.specs.Capture.{captureRows}
 use Rattle.claims.specs.Kitti.{kittiRows}
+use Rattle.claims.specs.Velodyne.{velodyneRows}
 
 unfoldable pub rows : List Row
-unfolding captureRows kittiRows
-rows = captureRows ++ kittiRows
+unfolding captureRows kittiRows velodyneRows
+rows = captureRows ++ kittiRows ++ velodyneRows

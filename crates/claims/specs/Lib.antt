@@ -4,3 +4,4 @@ pub mod Capture
 pub mod Cases
 pub mod Kitti
 pub mod Row
+pub mod Velodyne

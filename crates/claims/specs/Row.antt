@@ -1,6 +1,6 @@
 -- A row of the list of worked cases, and how its bytes are written.
 use Prim.Native.Nat.{ℕ, zero, suc, _/_, _%_, _^_}
-use mathlib.Core.List.{List, [], _∷_}
+use mathlib.Core.List.{List, [], _∷_, _++_}
 use Rattle.claims.specs.Call.{Call, Told}
 
 pub record Row : Type 0 where
@@ -15,3 +15,8 @@ call tells told = record { call = call; told = told }
 unfoldable pub dump : ℕ → ℕ → List ℕ
 dump zero digits = []
 dump (suc n) digits = digits / 256 ^ n % 256 ∷ dump n digits
+
+-- These bytes, n times.
+unfoldable pub times : ℕ → List ℕ → List ℕ
+times zero bytes = []
+times (suc n) bytes = bytes ++ times n bytes
