@@ -3,8 +3,10 @@ use mathlib.Core.List.{List, _++_}
 use Rattle.claims.specs.Row.{Row}
 use Rattle.claims.specs.Capture.{captureRows}
 use Rattle.claims.specs.Kitti.{kittiRows}
+use Rattle.claims.specs.Livox.{livoxRows}
+use Rattle.claims.specs.Placing.{placingRows}
 use Rattle.claims.specs.Velodyne.{velodyneRows}
 
 unfoldable pub rows : List Row
-unfolding captureRows kittiRows velodyneRows
-rows = captureRows ++ kittiRows ++ velodyneRows
+unfolding captureRows kittiRows livoxRows placingRows velodyneRows
+rows = captureRows ++ kittiRows ++ velodyneRows ++ livoxRows ++ placingRows

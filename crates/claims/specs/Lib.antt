@@ -3,5 +3,7 @@ pub mod Call
 pub mod Capture
 pub mod Cases
 pub mod Kitti
+pub mod Livox
+pub mod Placing
 pub mod Row
 pub mod Velodyne
