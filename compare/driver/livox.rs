@@ -5,6 +5,7 @@ use crate::livox_files::{self, Form};
 use crate::long::{untouched, TOO_LONG};
 use crate::original::Original;
 use crate::ours::{self, Answer};
+use crate::placing;
 use crate::random::Random;
 use crate::reading::{hold_all, refusal, Call, Expected, Room};
 use crate::tally::Tally;
@@ -54,6 +55,85 @@ pub fn compare(original: &Original, form: Form, seed: u64, files: u64) -> Tally 
     }
     tally.beside("the lengths around refusal 1", long_data(form, calls));
     tally
+}
+
+/// The stored readings of some ranks, turned into points, and their placings.
+pub fn compare_stored(original: &Original, form: Form, seed: u64, files: u64) -> Tally {
+    let reader = match form {
+        Form::Lvx => "lvx ranks",
+        Form::Lvx2 => "lvx2 ranks",
+    };
+    let mut tally = Tally::new(reader, seed);
+    for case in 0..files {
+        let data = livox_files::file(&mut Random::of_case(seed, case), case, form);
+        tally.file(case, &data, |data| {
+            let mut random = Random::of_case(!seed, case);
+            let read = original.read_livox(form, data);
+            let points = read.as_ref().map_or(0, |(_, kinds, _)| kinds.len());
+            let any = random.below(points.max(1));
+            for rank in [
+                0,
+                any,
+                points.saturating_sub(1),
+                points,
+                points + 1,
+                usize::MAX,
+            ] {
+                let expected = match &read {
+                    Err(number) => Err(*number),
+                    Ok((bits, kinds, _)) if rank < points => {
+                        Ok((&bits[3 * rank..3 * rank + 3], kinds[rank]))
+                    }
+                    Ok(_) => Err(11),
+                };
+                hold_rank(form == Form::Lvx2, data, rank, expected, &mut random)
+                    .map_err(|what| format!("rank {rank} of {points}: {what}"))?;
+            }
+            Ok(())
+        });
+    }
+    tally
+}
+
+fn hold_rank(
+    lvx2: bool,
+    data: &[u8],
+    rank: usize,
+    expected: Result<(&[u32], u8), u8>,
+    random: &mut Random,
+) -> Result<(), String> {
+    let stored = ours::stored_reading(data, lvx2, rank);
+    let belt = placing::belt(random);
+    let placed = ours::place_in_file(data, lvx2, rank, belt);
+    let (bits, kind) = match expected {
+        Ok(point) => point,
+        Err(number) if stored != (number, 0, [0; 3]) => {
+            return Err(format!("{stored:?} instead of refusal {number}"))
+        }
+        Err(number) => return placing::hold_refused(placed, number),
+    };
+    let (0, encoding, numbers) = stored else {
+        return Err(format!("{stored:?} instead of a reading"));
+    };
+    // As lidar.rs turns each into a point.
+    let point = match encoding {
+        1 => numbers.map(|x| (x as i32 as f32 / 1000.0).to_bits()),
+        2 => numbers.map(|x| (x as i16 as f32 * 0.01).to_bits()),
+        3 => [
+            (numbers[0] as u32 as f32 / 1000.0).to_bits(),
+            (numbers[1] as u16 as f32 * 0.01).to_bits(),
+            (numbers[2] as u16 as f32 * 0.01).to_bits(),
+        ],
+        _ => numbers.map(|x| x as u32),
+    };
+    if point != bits || kind != 1 + u8::from(encoding == 3) {
+        return Err(format!("{stored:?} is not {bits:08x?} of kind {kind}"));
+    }
+    match encoding {
+        1 => placing::hold_moved(placed, numbers[0] as i128 * 1_000, belt),
+        2 => placing::hold_moved(placed, numbers[0] as i128 * 10_000, belt),
+        _ => placing::hold_refused(placed, 11),
+    }
 }
 
 /// One frame, which ends the walk. The original has no such limit.

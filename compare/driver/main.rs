@@ -12,6 +12,7 @@ mod long;
 mod original;
 mod ours;
 mod ouster;
+mod placing;
 mod random;
 mod reading;
 mod tally;
@@ -43,8 +44,12 @@ fn main() -> ExitCode {
         ouster::compare_savefile(seed, files).finish(),
         livox::compare(&original, Form::Lvx, seed, files).finish(),
         livox::compare(&original, Form::Lvx2, seed, files).finish(),
+        livox::compare_stored(&original, Form::Lvx, seed, files).finish(),
+        livox::compare_stored(&original, Form::Lvx2, seed, files).finish(),
+        // A placing takes no file and is quick.
+        placing::compare(seed, files.saturating_mul(10)).finish(),
     ];
-    if same == [true; 10] {
+    if same == [true; 13] {
         ExitCode::SUCCESS
     } else {
         ExitCode::FAILURE

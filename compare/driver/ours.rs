@@ -102,6 +102,46 @@ extern "C" {
         beam_altitudes: *mut f32,
     );
 
+    fn lidar_place_millimetres(
+        x: i32,
+        count: u32,
+        datum: u32,
+        pulse_length: u32,
+        metres: *mut f32,
+    ) -> u8;
+
+    fn lidar_place_ten_millimetres(
+        x: i16,
+        count: u32,
+        datum: u32,
+        pulse_length: u32,
+        metres: *mut f32,
+    ) -> u8;
+
+    fn lidar_place_in_file(
+        data: *const u8,
+        data_len: usize,
+        lvx2: bool,
+        rank: usize,
+        count: u32,
+        datum: u32,
+        pulse_length: u32,
+        metres: *mut f32,
+    ) -> u8;
+
+    fn lidar_pulses(count: u32, datum: u32) -> i32;
+
+    fn lidar_stored_reading(
+        data: *const u8,
+        data_len: usize,
+        lvx2: bool,
+        rank: usize,
+        kind: *mut u8,
+        first: *mut i64,
+        second: *mut i64,
+        third: *mut i64,
+    ) -> u8;
+
     fn lidar_payload_place_as(
         data: *const u8,
         data_len: usize,
@@ -392,4 +432,80 @@ pub fn next_payload(data: &[u8], savefile: Option<bool>, port: u16, mut at: usiz
         start,
         len,
     }
+}
+
+/// What is asked beside the point: the count, the datum and the pulse length.
+#[derive(Clone, Copy, Debug)]
+pub struct Belt {
+    pub count: u32,
+    pub datum: u32,
+    pub pulse_length: u32,
+}
+
+/// What stands in the caller's float before a placing, so that a write shows.
+pub const NO_DISTANCE: u32 = 0x7FA5_5A5A;
+
+/// The number, and the pattern of the caller's float after the call.
+pub type Placed = (u8, u32);
+
+fn placed(call: impl FnOnce(*mut f32) -> u8) -> Placed {
+    let mut metres = f32::from_bits(NO_DISTANCE);
+    let number = call(&mut metres);
+    (number, metres.to_bits())
+}
+
+pub fn place_millimetres(x: i32, belt: Belt) -> Placed {
+    // SAFETY: it writes to the float alone.
+    placed(|metres| unsafe {
+        lidar_place_millimetres(x, belt.count, belt.datum, belt.pulse_length, metres)
+    })
+}
+
+pub fn place_ten_millimetres(x: i16, belt: Belt) -> Placed {
+    // SAFETY: as above.
+    placed(|metres| unsafe {
+        lidar_place_ten_millimetres(x, belt.count, belt.datum, belt.pulse_length, metres)
+    })
+}
+
+pub fn place_in_file(data: &[u8], lvx2: bool, rank: usize, belt: Belt) -> Placed {
+    // SAFETY: the pointer and the length come from one slice.
+    placed(|metres| unsafe {
+        lidar_place_in_file(
+            data.as_ptr(),
+            data.len(),
+            lvx2,
+            rank,
+            belt.count,
+            belt.datum,
+            belt.pulse_length,
+            metres,
+        )
+    })
+}
+
+pub fn pulses(count: u32, datum: u32) -> i32 {
+    // SAFETY: it takes numbers.
+    unsafe { lidar_pulses(count, datum) }
+}
+
+/// A stored reading: the number, the kind and the three numbers.
+pub type Stored = (u8, u8, [i64; 3]);
+
+pub fn stored_reading(data: &[u8], lvx2: bool, rank: usize) -> Stored {
+    let (mut kind, mut first, mut second, mut third) = (255, -7, -7, -7);
+    // SAFETY: as above.
+    let number = unsafe {
+        lidar_stored_reading(
+            data.as_ptr(),
+            data.len(),
+            lvx2,
+            rank,
+            &mut kind,
+            &mut first,
+            &mut second,
+            &mut third,
+        )
+    };
+    (number, kind, [first, second, third])
 }

@@ -8,6 +8,7 @@ const SHRINK: usize = 4096;
 
 pub struct Tally {
     reader: &'static str,
+    things: &'static str,
     seed: u64,
     files: u64,
     differences: u64,
@@ -17,10 +18,16 @@ impl Tally {
     pub fn new(reader: &'static str, seed: u64) -> Self {
         Tally {
             reader,
+            things: "files",
             seed,
             files: 0,
             differences: 0,
         }
+    }
+
+    /// For what is compared without a file.
+    pub fn of(self, things: &'static str) -> Self {
+        Tally { things, ..self }
     }
 
     /// Compares one file. `compare` is called again on beginnings of a file that differs.
@@ -59,11 +66,12 @@ impl Tally {
     pub fn finish(self) -> bool {
         let Tally {
             reader,
+            things,
             files,
             differences,
             ..
         } = self;
-        println!("{reader}: {files} files compared, {differences} differences found");
+        println!("{reader}: {files} {things} compared, {differences} differences found");
         differences == 0
     }
 }
