@@ -1,6 +1,7 @@
 //! Gives files to the original lidar.rs and to the facade, and compares what each makes of them.
 //!
-//! Arguments: a directory for the files, the seed, the number of files for each thing compared.
+//! Arguments: a directory for the files, the seed, the number of files for each thing compared, and the
+//! names of what to compare, which is everything where none is given.
 
 mod capture_files;
 mod captures;
@@ -22,34 +23,69 @@ mod words;
 use livox_files::Form;
 use original::Original;
 use std::process::ExitCode;
+use tally::Tally;
+
+/// What is compared: its name, and the comparison.
+type Comparison = (&'static str, fn(&Original, u64, u64) -> Tally);
+
+const COMPARISONS: [Comparison; 13] = [
+    ("kitti", kitti::compare),
+    ("captures", captures::compare),
+    ("captures-savefile", |_, seed, files| {
+        captures::compare_savefile(seed, files)
+    }),
+    ("velodyne", velodyne::compare),
+    ("velodyne-savefile", |_, seed, files| {
+        velodyne::compare_savefile(seed, files)
+    }),
+    ("velodyne-packets", |_, seed, files| {
+        velodyne::compare_packets(seed, files)
+    }),
+    ("ouster", ouster::compare),
+    ("ouster-savefile", |_, seed, files| {
+        ouster::compare_savefile(seed, files)
+    }),
+    ("lvx", |original, seed, files| {
+        livox::compare(original, Form::Lvx, seed, files)
+    }),
+    ("lvx2", |original, seed, files| {
+        livox::compare(original, Form::Lvx2, seed, files)
+    }),
+    ("lvx-ranks", |original, seed, files| {
+        livox::compare_stored(original, Form::Lvx, seed, files)
+    }),
+    ("lvx2-ranks", |original, seed, files| {
+        livox::compare_stored(original, Form::Lvx2, seed, files)
+    }),
+    // A placing takes no file and is quick.
+    ("placing", |_, seed, files| {
+        placing::compare(seed, files.saturating_mul(10))
+    }),
+];
 
 fn main() -> ExitCode {
     let arguments: Vec<String> = std::env::args().skip(1).collect();
-    let [directory, seed, files] = &arguments[..] else {
+    let [directory, seed, files, named @ ..] = &arguments[..] else {
         return usage();
     };
     let (Ok(seed), Ok(files)) = (seed.parse(), files.parse()) else {
         return usage();
     };
+    if named
+        .iter()
+        .any(|name| COMPARISONS.iter().all(|(known, _)| known != name))
+    {
+        return usage();
+    }
     let original = Original::new(directory.as_ref());
     // All of them run, whatever differs.
-    let same = [
-        kitti::compare(&original, seed, files).finish(),
-        captures::compare(&original, seed, files).finish(),
-        captures::compare_savefile(seed, files).finish(),
-        velodyne::compare(&original, seed, files).finish(),
-        velodyne::compare_savefile(seed, files).finish(),
-        velodyne::compare_packets(seed, files).finish(),
-        ouster::compare(&original, seed, files).finish(),
-        ouster::compare_savefile(seed, files).finish(),
-        livox::compare(&original, Form::Lvx, seed, files).finish(),
-        livox::compare(&original, Form::Lvx2, seed, files).finish(),
-        livox::compare_stored(&original, Form::Lvx, seed, files).finish(),
-        livox::compare_stored(&original, Form::Lvx2, seed, files).finish(),
-        // A placing takes no file and is quick.
-        placing::compare(seed, files.saturating_mul(10)).finish(),
-    ];
-    if same == [true; 13] {
+    let mut same = true;
+    for (name, compare) in COMPARISONS {
+        if named.is_empty() || named.iter().any(|one| one == name) {
+            same &= compare(&original, seed, files).finish();
+        }
+    }
+    if same {
         ExitCode::SUCCESS
     } else {
         ExitCode::FAILURE
@@ -57,6 +93,9 @@ fn main() -> ExitCode {
 }
 
 fn usage() -> ExitCode {
-    eprintln!("the seed and the number of files are whole numbers below 2^64");
+    eprintln!("the seed and the number of files are whole numbers below 2^64; then, if not all is to be compared, any of:");
+    for (name, _) in COMPARISONS {
+        eprintln!("  {name}");
+    }
     ExitCode::from(2)
 }
