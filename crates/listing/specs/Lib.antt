@@ -1,0 +1,2 @@
+-- The lines of the lister.
+pub mod Listing
