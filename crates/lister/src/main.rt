@@ -48,10 +48,13 @@ fn read(data: &[u8], bits: &mut [u32], kinds: &mut [u8]) -> Answer {
     }
 }
 
-// A line for each point.
+// A line for each point. What was read has room, so that no test here ends the list early.
 fn list_points(points: usize, bits: &[u32], kinds: &[u8]) {
     for k in 0..points {
-        if kinds.len() <= k || bits.len() / 3 <= k {
+        if kinds.len() <= k {
+            return;
+        }
+        if bits.len() / 3 <= k {
             return;
         }
         let at = k * 3;
