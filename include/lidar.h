@@ -14,7 +14,7 @@ extern "C" {
    The checks run in this order, and the first that applies gives the number.
    A check that concerns another file or call is skipped. */
 enum lidar_number {
-    LIDAR_READ = 0,
+    LIDAR_READ = 0,               /* or, of a point, that it was placed or told */
     LIDAR_TOO_LONG = 1,           /* the data is longer than 2147483647 bytes */
     LIDAR_BAD_SETTINGS = 2,       /* Ouster: beams not 16, 32, 64 or 128, columns outside 1 to 64,
                                      or fewer elevations than beams */
@@ -69,9 +69,9 @@ uint8_t lidar_read_kitti_bits(const uint8_t *data, size_t data_len,
                               uint8_t *kinds, size_t kinds_len,
                               size_t *points, size_t *frames);
 
-/* Reads a Livox file, LVX or LVX2. Points of integers are Cartesian; spherical points are polar, with
-   the zenith angle in the place of the elevation. In LVX, a float record's NaN arrives as a NaN, but
-   which one is left open; every other float arrives bit for bit. */
+/* Reads a Livox file, LVX or LVX2. Points of integers or floats are Cartesian; spherical points are
+   polar, with the zenith angle in the place of the elevation. In LVX, a float record's NaN arrives as a
+   NaN, but which one is left open; every other float arrives bit for bit. */
 uint8_t lidar_read_lvx(const uint8_t *data, size_t data_len,
                        float *numbers, size_t numbers_len,
                        uint8_t *kinds, size_t kinds_len,
@@ -195,9 +195,9 @@ bool lidar_next_payload(const uint8_t *data, size_t data_len,
    pulse_length   how far the belt moves in a pulse: 1 to 1000 micrometres
    metres         takes the distance along the belt. A refusal leaves it as it was
 
-   The distance is within half a micrometre of the exact one, however often the count has wrapped,
-   as long as the belt moved by less than 2^31 pulses. Beyond 16 m either way it is refused with
-   LIDAR_OUTSIDE_WINDOW. */
+   The exact distance is the point's x in micrometres plus (count - datum) * pulse_length. What is told
+   is within half a micrometre of it, however often the count has wrapped, as long as the belt moved by
+   less than 2^31 pulses. Beyond 16 m either way it is refused with LIDAR_OUTSIDE_WINDOW. */
 
 /* Places a point by its stored x: in millimetres (LVX and LVX2 type 1), or in counts of ten
    millimetres (LVX2 type 0). */
@@ -207,30 +207,32 @@ uint8_t lidar_place_millimetres(int32_t x, uint32_t count, uint32_t datum,
 uint8_t lidar_place_ten_millimetres(int16_t x, uint32_t count, uint32_t datum,
                                     uint32_t pulse_length, float *metres);
 
-/* Places the point of a rank, counted from 0 among all points of a Livox file. The file's own
-   refusals come first; a point that is spherical or of floats, or none of that rank, is
-   LIDAR_NOT_PLACEABLE. */
+/* Places the point of a rank, counted from 0 among all points of a Livox file. lvx2 is true for an
+   LVX2 file and false for LVX; a file of the other form is refused. The file's own refusals come
+   first; a point that is spherical or of floats, or none of that rank, is LIDAR_NOT_PLACEABLE. */
 uint8_t lidar_place_in_file(const uint8_t *data, size_t data_len, bool lvx2, size_t rank,
                             uint32_t count, uint32_t datum, uint32_t pulse_length,
                             float *metres);
 
-/* The pulses since the datum, below 0 where the belt ran back. */
+/* The pulses since the datum: count - datum, wrapping at 2^32, read as -2^31 to 2^31 - 1. */
 int32_t lidar_pulses(uint32_t count, uint32_t datum);
 
 /* How a stored reading is kept, which says what its three numbers are. */
 enum lidar_stored {
     LIDAR_NO_READING = 0,
-    LIDAR_MILLIMETRES = 1,      /* x, y, z */
+    LIDAR_MILLIMETRES = 1,      /* x, y, z in millimetres */
     LIDAR_TEN_MILLIMETRES = 2,  /* x, y, z in counts of ten millimetres */
     LIDAR_SPHERICAL = 3,        /* depth in millimetres, zenith angle and azimuth in hundredths of
                                    a degree */
-    LIDAR_FLOATS = 4            /* x, y, z in metres, each by the 32-bit pattern of its float */
+    LIDAR_FLOATS = 4            /* x, y, z in metres, each by the 32-bit pattern of its float,
+                                   0 to 4294967295 */
 };
 
-/* Tells the stored reading of a rank of a Livox file. *kind and the three numbers are always written;
-   on a refusal they are 0. No point of that rank is LIDAR_NOT_PLACEABLE. */
+/* Tells the stored reading of a rank of a Livox file, whether it can be placed or not. *stored, which
+   says what the three numbers are, and the numbers are always written; on a refusal they are 0. No
+   point of that rank is LIDAR_NOT_PLACEABLE. */
 uint8_t lidar_stored_reading(const uint8_t *data, size_t data_len, bool lvx2, size_t rank,
-                             uint8_t *kind, int64_t *first, int64_t *second, int64_t *third);
+                             uint8_t *stored, int64_t *first, int64_t *second, int64_t *third);
 
 #ifdef __cplusplus
 }

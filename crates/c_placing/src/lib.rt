@@ -25,8 +25,8 @@ pub extern "C" fn lidar_place_millimetres(
 ) -> u8
     ensures { λ r. ⌜ (r, now (metres .exit)) ≡ tellPlaced (place (byReading (millimetres x (pos 0) (pos 0))) count datum «pulse_length») (now (metres .entry)) ⌝ }
 {
-    let millimetres = StoredReading::Millimetres(Millimetres(x), Millimetres(0), Millimetres(0));
-    tell_place(millimetres, count, datum, pulse_length, metres)
+    let in_millimetres = StoredReading::Millimetres(Millimetres(x), Millimetres(0), Millimetres(0));
+    tell_place(in_millimetres, count, datum, pulse_length, metres)
 }
 
 #[no_mangle]
@@ -39,12 +39,12 @@ pub extern "C" fn lidar_place_ten_millimetres(
 ) -> u8
     ensures { λ r. ⌜ (r, now (metres .exit)) ≡ tellPlaced (place (byReading (tenMillimetres x (pos 0) (pos 0))) count datum «pulse_length») (now (metres .entry)) ⌝ }
 {
-    let counts = StoredReading::TenMillimetres(
+    let in_ten_millimetres = StoredReading::TenMillimetres(
         TenMillimetres(x),
         TenMillimetres(0),
         TenMillimetres(0),
     );
-    tell_place(counts, count, datum, pulse_length, metres)
+    tell_place(in_ten_millimetres, count, datum, pulse_length, metres)
 }
 
 #[no_mangle]

@@ -7,9 +7,9 @@ use Rattle.livox_form.specs.declared.Form.{Form}
 use Rattle.livox_form.specs.declared.Form.the-variants.{Lvx, Lvx2}
 use Rattle.livox_stored.specs.Stored.{Stored, millimetres, tenMillimetres, spherical, float}
 
-abbrev pub formOf : Bool → Form
-formOf true = Lvx2
-formOf false = Lvx
+abbrev pub formOfFlag : Bool → Form
+formOfFlag true = Lvx2
+formOfFlag false = Lvx
 
 pub data Told : Type 0 where
   -- the kind, and the three numbers

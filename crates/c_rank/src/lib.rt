@@ -17,31 +17,30 @@ ghost use Rattle.livox_rank.specs.Ranks.{readingOfRank};
 ghost use Rattle.placing.specs.Placing.{place};
 ghost use Rattle.placing_in_file.specs.InFile.{byRank};
 ghost use Rattle.c_placing.specs.Placed.{tellPlaced};
-ghost use Rattle.c_rank.specs.Told.{formOf, told, tellStored};
+ghost use Rattle.c_rank.specs.Told.{formOfFlag, told, tellStored};
 
 #[no_mangle]
 pub extern "C" fn lidar_stored_reading(
     data: &[u8],
     lvx2: bool,
     rank: usize,
-    kind: &mut u8,
+    stored: &mut u8,
     first: &mut i64,
     second: &mut i64,
     third: &mut i64,
 ) -> u8
-    ensures { λ r. ⌜ r ≡ readingOfRank (formOf lvx2) (now («data» .entry)) rank .0 ⌝ }
-    ensures { λ _. ⌜ told (now (kind .exit)) (now (first .exit)) (now (second .exit)) (now (third .exit)) ≡ tellStored (readingOfRank (formOf lvx2) (now («data» .entry)) rank .1) ⌝ }
+    ensures { λ r. ⌜ r ≡ readingOfRank (formOfFlag lvx2) (now («data» .entry)) rank .0 ⌝ }
+    ensures { λ _. ⌜ told (now (stored .exit)) (now (first .exit)) (now (second .exit)) (now (third .exit)) ≡ tellStored (readingOfRank (formOfFlag lvx2) (now («data» .entry)) rank .1) ⌝ }
 {
-    *kind = 0;
+    *stored = 0;
     *first = 0;
     *second = 0;
     *third = 0;
-    match stored_reading(form_of(lvx2), data, rank) {
+    match stored_reading(form_of_flag(lvx2), data, rank) {
         StoredAnswer::Reading(reading) => {
-            tell(reading, kind, first, second, third);
+            tell(reading, stored, first, second, third);
             0
         }
-        StoredAnswer::NoneOfRank => 11,
         StoredAnswer::Refused(refusal) => refusal.number(),
     }
 }
@@ -56,9 +55,9 @@ pub extern "C" fn lidar_place_in_file(
     pulse_length: u32,
     metres: &mut f32,
 ) -> u8
-    ensures { λ r. ⌜ (r, now (metres .exit)) ≡ tellPlaced (place (byRank (formOf lvx2) (now («data» .entry)) rank) count datum «pulse_length») (now (metres .entry)) ⌝ }
+    ensures { λ r. ⌜ (r, now (metres .exit)) ≡ tellPlaced (place (byRank (formOfFlag lvx2) (now («data» .entry)) rank) count datum «pulse_length») (now (metres .entry)) ⌝ }
 {
-    let form = form_of(lvx2);
+    let form = form_of_flag(lvx2);
     let placed = place_in_file(
         form,
         data,
@@ -70,24 +69,24 @@ pub extern "C" fn lidar_place_in_file(
     c_placing::tell(placed, metres)
 }
 
-fn form_of(lvx2: bool) -> Form
-    ensures { λ r. ⌜ r ≡ formOf lvx2 ⌝ }
+fn form_of_flag(lvx2: bool) -> Form
+    ensures { λ r. ⌜ r ≡ formOfFlag lvx2 ⌝ }
 {
     if lvx2 { Form::Lvx2 } else { Form::Lvx }
 }
 
-fn tell(reading: StoredReading, kind: &mut u8, first: &mut i64, second: &mut i64, third: &mut i64)
-    ensures { λ _. ⌜ told (now (kind .exit)) (now (first .exit)) (now (second .exit)) (now (third .exit)) ≡ tellStored (some (ofStoredReading reading)) ⌝ }
+fn tell(reading: StoredReading, stored: &mut u8, first: &mut i64, second: &mut i64, third: &mut i64)
+    ensures { λ _. ⌜ told (now (stored .exit)) (now (first .exit)) (now (second .exit)) (now (third .exit)) ≡ tellStored (some (ofStoredReading reading)) ⌝ }
 {
     match reading {
         StoredReading::Millimetres(x, y, z) => {
-            *kind = 1;
+            *stored = 1;
             *first = x.0 as i64;
             *second = y.0 as i64;
             *third = z.0 as i64;
         }
         StoredReading::TenMillimetres(x, y, z) => {
-            *kind = 2;
+            *stored = 2;
             *first = x.0 as i64;
             *second = y.0 as i64;
             *third = z.0 as i64;
@@ -97,13 +96,13 @@ fn tell(reading: StoredReading, kind: &mut u8, first: &mut i64, second: &mut i64
             zenith,
             azimuth,
         } => {
-            *kind = 3;
+            *stored = 3;
             *first = depth.0 as i64;
             *second = zenith.0 as i64;
             *third = azimuth.0 as i64;
         }
         StoredReading::Float(x, y, z) => {
-            *kind = 4;
+            *stored = 4;
             *first = x as i64;
             *second = y as i64;
             *third = z as i64;

@@ -67,7 +67,7 @@ pub data Told : Type 0 where
   -- The length that a record states.
   lengthStated : ℕ → Told
 
-abbrev placedAs : ℤ → Placing.Outcome → Told
+abbrev placedAs : ℤ → Placing.Placement → Told
 placedAs micrometres (Placing.told x) = placed 0 micrometres (toBits binary32 x)
 placedAs micrometres (Placing.refused number) = placed number micrometres 0
 

@@ -9,7 +9,7 @@ use lib.IntN.{ℤ, _-ℤ_}
 use borrow.Author.Tests.{le-ltb}
 use Rattle.points.specs.ReadInto.{firstRefusal}
 use Rattle.points.proofs.ReadInto.{Numbered, first-passes}
-use Rattle.placing.specs.Placing.{Asked, badPulseLength, checksOf, exact, exactOf, Outcome, outside, place, pulses}
+use Rattle.placing.specs.Placing.{Asked, badPulseLength, checksOf, exact, exactOf, Placement, outside, place, pulses}
 use Rattle.placing.specs.Accuracy.{Accurate, low32, PlacedAt}
 use Rattle.placing.proofs.Checks.{at, beyond, micrometres, past-window, window, within}
 use Rattle.placing.proofs.Rounding.{metres-within}
@@ -39,8 +39,8 @@ accurate asked numbered count datum pulseLength = record {
 }
 
 -- What both contracts of a placing say, from the first.
-pub both : (asked : Asked) → Numbered (asked .checks) → (count datum pulseLength : ℕ) {outcome : Outcome} → outcome ≡ place asked count datum pulseLength
-    → (outcome ≡ place asked count datum pulseLength) × Accurate asked count datum pulseLength outcome
+pub both : (asked : Asked) → Numbered (asked .checks) → (count datum pulseLength : ℕ) {placement : Placement} → placement ≡ place asked count datum pulseLength
+    → (placement ≡ place asked count datum pulseLength) × Accurate asked count datum pulseLength placement
 both asked numbered count datum pulseLength e = (e, subst (Accurate asked count datum pulseLength) (sym e) (accurate asked numbered count datum pulseLength))
 
 -- A count and a datum moved by the same amount change nothing.

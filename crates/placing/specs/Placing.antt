@@ -12,7 +12,7 @@ use Rattle.answers.specs.Answer.{refusalNumber}
 use Rattle.points.specs.ReadInto.{Check, firstRefusal}
 use Rattle.livox_stored.specs.Stored.{Stored, millimetres, tenMillimetres, spherical, float}
 use Rattle.placing.specs.declared.Along.{Along}
-use Rattle.placing.specs.declared.Along.the-variants.{Micrometres, Nothing}
+use Rattle.placing.specs.declared.Along.the-variants.{Micrometres, NotWholeMillimetre}
 use Rattle.placing.specs.declared.Placed.{Placed}
 use Rattle.placing.specs.declared.Placed.the-variants.{Metres, Refused}
 
@@ -41,7 +41,7 @@ pulses count datum = signed 32 ((count + (2 ^ 32 - datum)) % 2 ^ 32)
 abbrev pub exact : ℤ → ℤ → ℕ → ℤ
 exact x moved pulseLength = x +ℤ moved *ℤ pos pulseLength
 
--- The same, where there is no such point too.
+-- The same, and 0 where there is no such point: check 11 then comes first, so that it is never told.
 unfoldable pub exactOf : Option ℤ → ℕ → ℕ → ℕ → ℤ
 unfolding pulses
 exactOf (some x) count datum pulseLength = exact x (pulses count datum) pulseLength
@@ -64,13 +64,13 @@ unfoldable pub metres : ℤ → Float
 metres micrometres = div binary32 (ofInt binary32 micrometres) (round binary32 false 1000000 1)
 
 -- What a placing gives back: 0 and the distance in metres, or a refusal's number.
-pub data Outcome : Type 0 where
-  told : Float → Outcome
-  refused : ℕ → Outcome
+pub data Placement : Type 0 where
+  told : Float → Placement
+  refused : ℕ → Placement
 
-abbrev pub outcomeOf : ℕ → ℤ → Outcome
-outcomeOf zero micrometres = told (metres micrometres)
-outcomeOf (suc number) micrometres = refused (suc number)
+abbrev pub placementOf : ℕ → ℤ → Placement
+placementOf zero micrometres = told (metres micrometres)
+placementOf (suc number) micrometres = refused (suc number)
 
 -- The checks in their order: those of the file, then 11, 12 and 13.
 unfoldable pub checksOf : Asked → ℕ → ℕ → ℕ → List Check
@@ -82,20 +82,20 @@ checksOf asked count datum pulseLength =
     ∷ (13, outside (exactOf (asked .micrometres) count datum pulseLength))
     ∷ []
 
-unfoldable pub place : Asked → ℕ → ℕ → ℕ → Outcome
+unfoldable pub place : Asked → ℕ → ℕ → ℕ → Placement
 unfolding metres firstRefusal checksOf exactOf
-place asked count datum pulseLength = outcomeOf (firstRefusal (checksOf asked count datum pulseLength)) (exactOf (asked .micrometres) count datum pulseLength)
+place asked count datum pulseLength = placementOf (firstRefusal (checksOf asked count datum pulseLength)) (exactOf (asked .micrometres) count datum pulseLength)
 
--- The answer of code.
--- The reading of code, along the belt, and how far off it can be.
+-- Code's micrometres along the belt, and a bound that keeps its sums within 64 bits. No public contract cites these.
 abbrev pub ofAlong : Along → Option ℤ
 ofAlong (Micrometres x) = some x
-ofAlong Nothing = none
+ofAlong NotWholeMillimetre = none
 
 abbrev pub InReach : Along → Type 0
 InReach (Micrometres x) = mag x < 2 ^ 45
-InReach Nothing = Unit {0}
+InReach NotWholeMillimetre = Unit {0}
 
-abbrev pub ofPlaced : Placed → Outcome
+-- The answer of code.
+abbrev pub ofPlaced : Placed → Placement
 ofPlaced (Metres x) = told x
 ofPlaced (Refused refusal) = refused (refusalNumber refusal)

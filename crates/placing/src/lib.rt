@@ -32,7 +32,7 @@ pub enum Placed {
 // Where a point was seen along the belt.
 enum Along {
     Micrometres(i64),
-    Nothing,
+    NotWholeMillimetre,
 }
 
 // Places a point by its stored reading.
@@ -75,8 +75,8 @@ fn along_belt(reading: StoredReading) -> Along
             depth: _,
             zenith: _,
             azimuth: _,
-        } => Along::Nothing,
-        StoredReading::Float(_, _, _) => Along::Nothing,
+        } => Along::NotWholeMillimetre,
+        StoredReading::Float(_, _, _) => Along::NotWholeMillimetre,
     }
 }
 
@@ -85,7 +85,7 @@ fn place_along(x: i64, count: BeltCount, datum: BeltDatum, pulse_length: PulseLe
     ensures { λ r. ⌜ ofPlaced r ≡ place (record { checks = []; micrometres = some x }) (count .0) (datum .0) («pulse_length» .0) ⌝ }
 {
     let length = pulse_length.0;
-    if is_bad(length) {
+    if is_bad_pulse_length(length) {
         return Placed::Refused(Refusal::BadPulseLength);
     }
     let micrometres = x + times(pulses(count, datum).0, length);
@@ -103,8 +103,7 @@ fn times(n: i32, micrometres: u32) -> i64
     n as i64 * micrometres as i64
 }
 
-// Whether this is no pulse length.
-fn is_bad(length: u32) -> bool
+fn is_bad_pulse_length(length: u32) -> bool
     ensures { λ r. ⌜ r ≡ badPulseLength length ⌝ }
 {
     length < 1 || 1000 < length

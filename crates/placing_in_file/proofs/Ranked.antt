@@ -17,7 +17,7 @@ use Rattle.livox_stored.specs.Stored.{Stored}
 use Rattle.livox_file.specs.Livox.{stored}
 use Rattle.livox_rank.specs.declared.StoredAnswer.{StoredAnswer}
 use Rattle.livox_rank.specs.Ranks.{ofStoredAnswer, rankedAs, readingOfRank}
-use Rattle.placing.specs.Placing.{Asked, byReading, Outcome, place, refused}
+use Rattle.placing.specs.Placing.{Asked, byReading, Placement, place, refused}
 use Rattle.placing.proofs.Accuracy.{let-through}
 use Rattle.placing.proofs.Checks.{file-refused, not-placeable}
 use Rattle.placing_in_file.specs.InFile.{alongIf, byRank}
@@ -38,7 +38,7 @@ past (x ∷ l) (suc k) e = omega (arith, past l k e)
 
 module _ (count datum pulseLength : ℕ) where
   -- A number and a reading, placed. The number tells why there is no reading.
-  abbrev pub placed : ℕ × Option Stored → Outcome
+  abbrev pub placed : ℕ × Option Stored → Placement
   placed (number, some reading) = place (byReading reading) count datum pulseLength
   placed (number, none) = refused number
 

@@ -1,6 +1,5 @@
 // Placing the point of a rank in a Livox file.
 
-use answers::Refusal;
 use livox_form::Form;
 use livox_rank::StoredAnswer;
 use livox_rank::stored_reading;
@@ -28,7 +27,6 @@ pub fn place_in_file(
 {
     match stored_reading(form, data, rank) {
         StoredAnswer::Reading(reading) => place(reading, count, datum, pulse_length),
-        StoredAnswer::NoneOfRank => Placed::Refused(Refusal::NotPlaceable),
         StoredAnswer::Refused(refusal) => Placed::Refused(refusal),
     }
 }

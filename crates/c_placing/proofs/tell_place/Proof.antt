@@ -12,7 +12,7 @@ tell-requires : tie.Need-tell-requires
 tell-requires c κs = search needs
 
 returns : tie.Need-returns
-returns c = c .tell .ensures ∙ ap (λ outcome. tellPlaced outcome (c .before .before .before .args .metres .now)) (c .before .before .place .ensures .0)
+returns c = c .tell .ensures ∙ ap (λ placement. tellPlaced placement (c .before .before .before .args .metres .now)) (c .before .before .place .ensures .0)
 
 pub tell-place-spec : {M : Type 1} → statement M
 tell-place-spec = tie.close (tie.spec place-requires tell-requires returns)

@@ -8,8 +8,8 @@ use Rattle.c_placing.specs.Placed.{tellPlaced}
 use Rattle.c_rank.proofs.lidar_place_in_file.Statement.{statement}
 use Rattle.c_rank.proofs.lidar_place_in_file.Tie as tie
 
-form-of-requires : tie.Need-form-of-requires
-form-of-requires c κs = search needs
+form-of-flag-requires : tie.Need-form-of-flag-requires
+form-of-flag-requires c κs = search needs
 
 place-in-file-requires : tie.Need-place-in-file-requires
 place-in-file-requires c κs = search needs
@@ -21,10 +21,10 @@ returns : tie.Need-returns
 returns c =
     let start = c .before .before .before .before .before in
     c .tell .ensures
-    ∙ ap (λ outcome. tellPlaced outcome (start .args .metres .now))
+    ∙ ap (λ placement. tellPlaced placement (start .args .metres .now))
     (c .before .before .place-in-file .ensures .0
-    ∙ ap (λ (form : Form). place (byRank form (start .args .«data» .now) (start .args .rank)) (start .args .count) (start .args .datum) (start .args .pulse-length)) (c .before .before .before .form-of .ensures))
+    ∙ ap (λ (form : Form). place (byRank form (start .args .«data» .now) (start .args .rank)) (start .args .count) (start .args .datum) (start .args .pulse-length)) (c .before .before .before .form-of-flag .ensures))
 
 pub lidar-place-in-file-spec : {M : Type 1} → statement M
 lidar-place-in-file-spec =
-    tie.close (tie.spec form-of-requires place-in-file-requires tell-requires returns)
+    tie.close (tie.spec form-of-flag-requires place-in-file-requires tell-requires returns)

@@ -7,15 +7,15 @@ use borrow.Author.Needs.{needs}
 use Rattle.livox_form.specs.declared.Form.{Form}
 use Rattle.livox_rank.specs.declared.StoredAnswer.{StoredAnswer}
 use Rattle.livox_rank.specs.Ranks.{ofStoredAnswer, readingOfRank}
-use Rattle.c_rank.specs.Told.{formOf, tellStored}
+use Rattle.c_rank.specs.Told.{formOfFlag, tellStored}
 use Rattle.c_rank.proofs.lidar_stored_reading.Statement.{statement}
 use Rattle.c_rank.proofs.lidar_stored_reading.Tie as tie
 
-answer-is : {answer a : StoredAnswer} {form : Form} (lvx2 : Bool) (bytes : List ℕ) (rank : ℕ) → answer ≡ a → form ≡ formOf lvx2 → ofStoredAnswer answer ≡ readingOfRank form bytes rank → ofStoredAnswer a ≡ readingOfRank (formOf lvx2) bytes rank
+answer-is : {answer a : StoredAnswer} {form : Form} (lvx2 : Bool) (bytes : List ℕ) (rank : ℕ) → answer ≡ a → form ≡ formOfFlag lvx2 → ofStoredAnswer answer ≡ readingOfRank form bytes rank → ofStoredAnswer a ≡ readingOfRank (formOfFlag lvx2) bytes rank
 answer-is lvx2 bytes rank found form told = sym (ap ofStoredAnswer found) ∙ told ∙ ap (λ (f : Form). readingOfRank f bytes rank) form
 
-form-of-requires : tie.Need-form-of-requires
-form-of-requires c κs = search needs
+form-of-flag-requires : tie.Need-form-of-flag-requires
+form-of-flag-requires c κs = search needs
 
 stored-reading-requires : tie.Need-stored-reading-requires
 stored-reading-requires c κs = search needs
@@ -26,9 +26,6 @@ enum-known-reading c = search needs
 tell-requires : tie.Need-tell-requires
 tell-requires c κs = search needs
 
-enum-told : tie.Need-enum-told
-enum-told c = search needs
-
 enum-known-refusal : tie.Need-enum-known-refusal
 enum-known-refusal c = search needs
 
@@ -38,32 +35,24 @@ number-requires c κs = search needs
 returns : tie.Need-returns
 returns c =
     let start = c .before .before .before .before .before .before .before .before .before .before .before in
-    let is = answer-is (start .args .lvx2) (start .args .«data» .now) (start .args .rank) (c .before .before .before .before .before .before .reading .given .1) (c .before .before .before .before .before .before .before .before .before .form-of .ensures) (c .before .before .before .before .before .before .before .before .stored-reading .ensures) in
+    let is = answer-is (start .args .lvx2) (start .args .«data» .now) (start .args .rank) (c .before .before .before .before .before .before .reading .given .1) (c .before .before .before .before .before .before .before .before .before .form-of-flag .ensures) (c .before .before .before .before .before .before .before .before .stored-reading .ensures) in
     (ap (λ p. p .0) is, c .tell .ensures ∙ ap (λ p. tellStored (p .1)) is)
 
 returns-2 : tie.Need-returns-2
 returns-2 c =
-    let start = c .before .before .before .before .before in
-    let is = answer-is (start .args .lvx2) (start .args .«data» .now) (start .args .rank) (c .enum-told .given .1) (c .before .before .before .form-of .ensures) (c .before .before .stored-reading .ensures) in
-    (ap (λ p. p .0) is, ap (λ p. tellStored (p .1)) is)
-
-returns-3 : tie.Need-returns-3
-returns-3 c =
     let start = c .before .before .before .before .before .before .before in
-    let is = answer-is (start .args .lvx2) (start .args .«data» .now) (start .args .rank) (c .before .before .refusal .given .1) (c .before .before .before .before .before .form-of .ensures) (c .before .before .before .before .stored-reading .ensures) in
+    let is = answer-is (start .args .lvx2) (start .args .«data» .now) (start .args .rank) (c .before .before .refusal .given .1) (c .before .before .before .before .before .form-of-flag .ensures) (c .before .before .before .before .stored-reading .ensures) in
     (c .number .ensures ∙ ap (λ p. p .0) is, ap (λ p. tellStored (p .1)) is)
 
 pub lidar-stored-reading-spec : {M : Type 1} → statement M
 lidar-stored-reading-spec =
     tie.close
     (tie.spec
-    form-of-requires
+    form-of-flag-requires
     stored-reading-requires
     enum-known-reading
     tell-requires
-    enum-told
     enum-known-refusal
     number-requires
     returns
-    returns-2
-    returns-3)
+    returns-2)

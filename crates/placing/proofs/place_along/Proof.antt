@@ -32,7 +32,7 @@ module _ (x r : ℤ) (fits : SFits w64 x) (near : mag x < 2 ^ 45) (ok : SFits w6
 
 -- the checks and the micrometres, from where the product is made
 good : (c : tie.After-times) → badPulseLength (c .before .before .before .before .before .args .pulse-length .0) ≡ false
-good c = sym (c .before .before .before .before .is-bad .ensures) ∙ c .before .before .before .if1 .left
+good c = sym (c .before .before .before .before .is-bad-pulse-length .ensures) ∙ c .before .before .before .if1 .left
 
 exact-is : (c : tie.After-times)
     → toZ w64 (ofZ w64 (toZ w64 (ofZ w64 (c .before .before .before .before .before .args .x)) +ℤ toZ w64 (ofZ w64 (c .times .result))))
@@ -48,11 +48,11 @@ million : ofBits binary32 1232348160 ≡ round binary32 false 1000000 1
 unfolding ofBits round
 million = refl
 
-is-bad-requires : tie.Need-is-bad-requires
-is-bad-requires c κs = search needs
+is-bad-pulse-length-requires : tie.Need-is-bad-pulse-length-requires
+is-bad-pulse-length-requires c κs = search needs
 
 returns : tie.Need-returns
-returns c = bad-length _ _ _ _ (sym (c .before .is-bad .ensures) ∙ c .if1 .taken)
+returns c = bad-length _ _ _ _ (sym (c .before .is-bad-pulse-length .ensures) ∙ c .if1 .taken)
 
 pulses-requires : tie.Need-pulses-requires
 pulses-requires c κs = search needs
@@ -60,7 +60,7 @@ pulses-requires c κs = search needs
 times-requires : tie.Need-times-requires
 times-requires c κs =
     let length = c .before .before .before .before .args .pulse-length .0 in
-    let few : length ≤ 1000 = good-length length (sym (c .before .before .before .is-bad .ensures) ∙ c .before .before .if1 .left) in
+    let few : length ≤ 1000 = good-length length (sym (c .before .before .before .is-bad-pulse-length .ensures) ∙ c .before .before .if1 .left) in
     le-trans few (lit≤ tt)
 
 add-micrometres : tie.Need-add-micrometres
@@ -88,7 +88,7 @@ pub place-along-spec : {M : Type 1} → statement M
 place-along-spec =
     tie.close
     (tie.spec
-    is-bad-requires
+    is-bad-pulse-length-requires
     returns
     pulses-requires
     times-requires

@@ -17,9 +17,6 @@ enum-known-reading c = search needs
 place-requires : tie.Need-place-requires
 place-requires c κs = search needs
 
-enum-told : tie.Need-enum-told
-enum-told c = search needs
-
 enum-known-refusal : tie.Need-enum-known-refusal
 enum-known-refusal c = search needs
 
@@ -31,12 +28,6 @@ returns c =
 
 returns-2 : tie.Need-returns-2
 returns-2 c =
-    let start = c .before .before .before .before in
-    both (byRank (start .args .form) (start .args .«data» .now) (start .args .rank)) (numbered _ _) _ _ _
-    (answered _ _ _ (start .args .form) (start .args .«data» .now) (start .args .rank) (c .enum-told .given .1) (c .before .before .stored-reading .ensures))
-
-returns-3 : tie.Need-returns-3
-returns-3 c =
     let start = c .before .before .before .before .before in
     both (byRank (start .args .form) (start .args .«data» .now) (start .args .rank)) (numbered _ _) _ _ _
     (answered _ _ _ (start .args .form) (start .args .«data» .now) (start .args .rank) (c .before .refusal .given .1) (c .before .before .before .stored-reading .ensures))
@@ -48,8 +39,6 @@ place-in-file-spec =
     stored-reading-requires
     enum-known-reading
     place-requires
-    enum-told
     enum-known-refusal
     returns
-    returns-2
-    returns-3)
+    returns-2)
