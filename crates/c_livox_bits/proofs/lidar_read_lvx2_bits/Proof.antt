@@ -1,7 +1,7 @@
--- `c_livox::lidar_read_lvx2_bits` meets its contract: the answer that is told is the Rattle call's. Assumes nothing.
+-- `c_livox_bits::lidar_read_lvx2_bits` meets its contract: the answer that is told is the Rattle call's. Assumes nothing.
 use borrow.Author.Needs.{needs}
-use Rattle.c_livox.proofs.lidar_read_lvx2_bits.Statement.{statement}
-use Rattle.c_livox.proofs.lidar_read_lvx2_bits.Tie as tie
+use Rattle.c_livox_bits.proofs.lidar_read_lvx2_bits.Statement.{statement}
+use Rattle.c_livox_bits.proofs.lidar_read_lvx2_bits.Tie as tie
 
 read-lvx2-bits-requires : tie.Need-read-lvx2-bits-requires
 read-lvx2-bits-requires c κs = search needs
