@@ -8,18 +8,18 @@ pub enum Form {
     Lvx2,
 }
 
-const FRAME_HEADER: usize = 24;
+pub const FRAME_HEADER: usize = 24;
 
 /// Where a form keeps the fields of a package, and the size of a point of each type.
-struct Layout {
-    package_header: usize,
+pub struct Layout {
+    pub package_header: usize,
     type_at: usize,
     length_at: usize,
-    types: [(u8, usize); 3],
+    pub types: [(u8, usize); 3],
 }
 
 impl Form {
-    fn layout(self) -> Layout {
+    pub fn layout(self) -> Layout {
         match self {
             Form::Lvx => Layout {
                 package_header: 27,
@@ -48,6 +48,8 @@ impl Form {
 const CUTS: u64 = 300;
 /// The next have every count of devices, each with data that ends before, at and behind the section.
 const DEVICES: u64 = 3 * 256;
+/// From this case on a file is any.
+pub const ANY: u64 = CUTS + DEVICES;
 
 /// The file of a case.
 pub fn file(random: &mut Random, case: u64, form: Form) -> Vec<u8> {
@@ -56,7 +58,7 @@ pub fn file(random: &mut Random, case: u64, form: Form) -> Vec<u8> {
         let mut data = any_frames(random, start, form, true);
         data.truncate(case as usize);
         data
-    } else if case < CUTS + DEVICES {
+    } else if case < ANY {
         let (devices, end) = ((case - CUTS) / 3, (case - CUTS) % 3);
         let mut data = header(random, form, 28, devices as u8);
         match end {
@@ -106,7 +108,7 @@ fn any(random: &mut Random, form: Form) -> Vec<u8> {
 }
 
 /// Everything before the frames.
-fn header(random: &mut Random, form: Form, header_size: usize, devices: u8) -> Vec<u8> {
+pub fn header(random: &mut Random, form: Form, header_size: usize, devices: u8) -> Vec<u8> {
     let mut data = Vec::new();
     let start = match form {
         Form::Lvx => {
@@ -183,30 +185,26 @@ fn any_frames(random: &mut Random, mut data: Vec<u8>, form: Form, sound: bool) -
 
 /// Appends a package, and tells where its header stands.
 fn package(random: &mut Random, data: &mut Vec<u8>, form: Form) -> usize {
-    let Layout {
-        package_header,
-        type_at,
-        length_at,
-        types,
-    } = form.layout();
     let (data_type, size) = match random.below(10) {
         0 => (random.next() as u8, random.within(1, 20)),
         1 => (random.pick(&[0, 3, 4, 255]), 14),
-        _ => random.pick(&types),
+        _ => random.pick(&form.layout().types),
     };
     let points = random.pick(&[0, 1, 1, 2, 3, 8, 20]);
     let length = points * size + random.pick(&[0, 0, 0, 1, size - 1]);
+    package_of(random, data, form, data_type, length)
+}
+
+/// The same, of a type and a length.
+pub fn package_of(
+    random: &mut Random,
+    data: &mut Vec<u8>,
+    form: Form,
+    data_type: u8,
+    length: usize,
+) -> usize {
     let at = data.len();
-    data.resize_with(at + package_header, || random.next() as u8);
-    data[at + type_at] = data_type;
-    match form {
-        Form::Lvx => {
-            data[at + length_at..][..2].copy_from_slice(&(length as u16).to_le_bytes());
-        }
-        Form::Lvx2 => {
-            data[at + length_at..][..4].copy_from_slice(&(length as u32).to_le_bytes());
-        }
-    }
+    package_header(random, data, form, data_type, length);
     let end = data.len() + length;
     // Floats as they are easy to get wrong, numbers at the ends of their ranges, and any bytes.
     let chosen = random.below(3);
@@ -220,6 +218,30 @@ fn package(random: &mut Random, data: &mut Vec<u8>, form: Form) -> usize {
     }
     data.truncate(end);
     at
+}
+
+/// Appends the header of a package.
+pub fn package_header(
+    random: &mut Random,
+    data: &mut Vec<u8>,
+    form: Form,
+    data_type: u8,
+    length: usize,
+) {
+    let layout = form.layout();
+    let at = data.len();
+    data.resize_with(at + layout.package_header, || random.next() as u8);
+    data[at + layout.type_at] = data_type;
+    set_length(data, at, length, form);
+}
+
+/// Writes the length into the header of a package. LVX has no room for more than 65,535.
+fn set_length(data: &mut [u8], at: usize, length: usize, form: Form) {
+    let field = &mut data[at + form.layout().length_at..];
+    match form {
+        Form::Lvx => field[..2].copy_from_slice(&(length.min(65_535) as u16).to_le_bytes()),
+        Form::Lvx2 => field[..4].copy_from_slice(&(length as u32).to_le_bytes()),
+    }
 }
 
 /// A next offset that leads back, stays, falls into this frame, behind the data or around 2^64.
@@ -248,8 +270,7 @@ fn wrong_next(
 
 /// A length that is a little off, that reaches the data's end or goes just past it, or that is far off.
 fn wrong_length(random: &mut Random, data: &mut [u8], at: usize, form: Form) {
-    let layout = form.layout();
-    let rest = data.len() - at - layout.package_header;
+    let rest = data.len() - at - form.layout().package_header;
     let length = match random.below(6) {
         0 => random.below(40),
         1 => rest,
@@ -258,11 +279,7 @@ fn wrong_length(random: &mut Random, data: &mut [u8], at: usize, form: Form) {
         4 => random.next() as u32 as usize,
         _ => random.below(rest + 10),
     };
-    let field = &mut data[at + layout.length_at..];
-    match form {
-        Form::Lvx => field[..2].copy_from_slice(&(length.min(65_535) as u16).to_le_bytes()),
-        Form::Lvx2 => field[..4].copy_from_slice(&(length as u32).to_le_bytes()),
-    }
+    set_length(data, at, length, form);
 }
 
 /// Flips bits behind the first bytes.

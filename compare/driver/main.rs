@@ -1,12 +1,14 @@
 //! Gives files to the original lidar.rs and to the facade, and compares what each makes of them.
 //!
-//! Arguments: a directory for the files, the seed, the number of files for each thing compared, and the
-//! names of what to compare, which is everything where none is given.
+//! Arguments: a directory for the files, the lister, the seed, the number of files for each thing
+//! compared, and the names of what to compare, which is everything where none is given.
 
 mod capture_files;
 mod captures;
 mod kitti;
 mod lent;
+mod lister;
+mod lister_files;
 mod livox;
 mod livox_files;
 mod long;
@@ -20,42 +22,61 @@ mod tally;
 mod velodyne;
 mod words;
 
+use lister::Lister;
 use livox_files::Form;
 use original::Original;
 use std::process::ExitCode;
 use tally::Tally;
 
-/// What is compared: its name, and the comparison.
-type Comparison = (&'static str, fn(&Original, u64, u64) -> Tally);
+/// What runs beside the static library.
+struct Programs {
+    original: Original,
+    lister: Lister,
+}
 
-const COMPARISONS: [Comparison; 13] = [
-    ("kitti", kitti::compare),
-    ("captures", captures::compare),
+/// What is compared: its name, and the comparison.
+type Comparison = (&'static str, fn(&Programs, u64, u64) -> Tally);
+
+const COMPARISONS: [Comparison; 14] = [
+    ("kitti", |run, seed, files| {
+        kitti::compare(&run.original, seed, files)
+    }),
+    ("captures", |run, seed, files| {
+        captures::compare(&run.original, seed, files)
+    }),
     ("captures-savefile", |_, seed, files| {
         captures::compare_savefile(seed, files)
     }),
-    ("velodyne", velodyne::compare),
+    ("velodyne", |run, seed, files| {
+        velodyne::compare(&run.original, seed, files)
+    }),
     ("velodyne-savefile", |_, seed, files| {
         velodyne::compare_savefile(seed, files)
     }),
     ("velodyne-packets", |_, seed, files| {
         velodyne::compare_packets(seed, files)
     }),
-    ("ouster", ouster::compare),
+    ("ouster", |run, seed, files| {
+        ouster::compare(&run.original, seed, files)
+    }),
     ("ouster-savefile", |_, seed, files| {
         ouster::compare_savefile(seed, files)
     }),
-    ("lvx", |original, seed, files| {
-        livox::compare(original, Form::Lvx, seed, files)
+    ("lvx", |run, seed, files| {
+        livox::compare(&run.original, Form::Lvx, seed, files)
     }),
-    ("lvx2", |original, seed, files| {
-        livox::compare(original, Form::Lvx2, seed, files)
+    ("lvx2", |run, seed, files| {
+        livox::compare(&run.original, Form::Lvx2, seed, files)
     }),
-    ("lvx-ranks", |original, seed, files| {
-        livox::compare_stored(original, Form::Lvx, seed, files)
+    ("lvx-ranks", |run, seed, files| {
+        livox::compare_stored(&run.original, Form::Lvx, seed, files)
     }),
-    ("lvx2-ranks", |original, seed, files| {
-        livox::compare_stored(original, Form::Lvx2, seed, files)
+    ("lvx2-ranks", |run, seed, files| {
+        livox::compare_stored(&run.original, Form::Lvx2, seed, files)
+    }),
+    // A program is started for each file, which is slow.
+    ("lister", |run, seed, files| {
+        lister::compare(&run.original, &run.lister, seed, files.div_ceil(10))
     }),
     // A placing takes no file and is quick.
     ("placing", |_, seed, files| {
@@ -65,7 +86,7 @@ const COMPARISONS: [Comparison; 13] = [
 
 fn main() -> ExitCode {
     let arguments: Vec<String> = std::env::args().skip(1).collect();
-    let [directory, seed, files, named @ ..] = &arguments[..] else {
+    let [directory, lister, seed, files, named @ ..] = &arguments[..] else {
         return usage();
     };
     let (Ok(seed), Ok(files)) = (seed.parse(), files.parse()) else {
@@ -77,12 +98,15 @@ fn main() -> ExitCode {
     {
         return usage();
     }
-    let original = Original::new(directory.as_ref());
+    let programs = Programs {
+        original: Original::new(directory.as_ref()),
+        lister: Lister::new(lister.as_ref(), directory.as_ref()),
+    };
     // All of them run, whatever differs.
     let mut same = true;
     for (name, compare) in COMPARISONS {
         if named.is_empty() || named.iter().any(|one| one == name) {
-            same &= compare(&original, seed, files).finish();
+            same &= compare(&programs, seed, files).finish();
         }
     }
     if same {
