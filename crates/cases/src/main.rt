@@ -2,6 +2,8 @@
 // the call gave back, so that a wrong value changes what is written.
 
 mod file;
+mod livox_cases;
+mod livox_file;
 mod ouster_cases;
 mod show;
 mod velodyne_cases;
@@ -9,4 +11,5 @@ mod velodyne_cases;
 fn main() {
     velodyne_cases::run();
     ouster_cases::run();
+    livox_cases::run();
 }
