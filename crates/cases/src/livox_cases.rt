@@ -1,7 +1,7 @@
 // Livox: each type in each form, unknown types, leftover bytes, frames that overlap, go back or do
 // not fit, headers of other sizes, and each refusal of a file.
 
-use crate::livox_file;
+use crate::livox_bytes;
 use crate::show;
 use answers::Answer;
 use livox::Form;
@@ -414,14 +414,14 @@ fn lvx2_headers() {
 fn package(name: &[u8], form: Form, data_type: u8, length: u64, body: &[u8]) {
     if body.len() <= 64 {
         let mut file = [0u8; 16384];
-        livox_file::put_header(form, &mut file);
+        livox_bytes::put_header(form, &mut file);
         match form {
             Form::Lvx => {
-                livox_file::put_frame(form, &mut file, 29, 0, data_type, length, body);
+                livox_bytes::put_frame(form, &mut file, 29, 0, data_type, length, body);
                 read(name, form, &file, 80 + body.len(), true);
             }
             Form::Lvx2 => {
-                livox_file::put_frame(form, &mut file, 28, 0, data_type, length, body);
+                livox_bytes::put_frame(form, &mut file, 28, 0, data_type, length, body);
                 read(name, form, &file, 63 + body.len(), true);
             }
         }
@@ -431,19 +431,19 @@ fn package(name: &[u8], form: Form, data_type: u8, length: u64, body: &[u8]) {
 // A frame of two points and one of one point.
 fn two_frames(name: &[u8], form: Form, next_offset: u64, length: u64, second_next_offset: u64) {
     let mut file = [0u8; 16384];
-    livox_file::put_header(form, &mut file);
+    livox_bytes::put_header(form, &mut file);
     let two =
         b"\x01\x00\x00\x00\x02\x00\x00\x00\x03\x00\x00\x00\x00\x00\x04\x00\x00\x00\x05\x00\x00\x00\x06\x00\x00\x00\x00\x00";
     let one = b"\x07\x00\x00\x00\x08\x00\x00\x00\x09\x00\x00\x00\x00\x00";
     match form {
         Form::Lvx => {
-            livox_file::put_frame(form, &mut file, 29, next_offset, 1, length, two);
-            livox_file::put_frame(form, &mut file, 108, second_next_offset, 1, 14, one);
+            livox_bytes::put_frame(form, &mut file, 29, next_offset, 1, length, two);
+            livox_bytes::put_frame(form, &mut file, 108, second_next_offset, 1, 14, one);
             read(name, form, &file, 173, false);
         }
         Form::Lvx2 => {
-            livox_file::put_frame(form, &mut file, 28, next_offset, 1, length, two);
-            livox_file::put_frame(form, &mut file, 91, second_next_offset, 1, 14, one);
+            livox_bytes::put_frame(form, &mut file, 28, next_offset, 1, length, two);
+            livox_bytes::put_frame(form, &mut file, 91, second_next_offset, 1, 14, one);
             read(name, form, &file, 140, false);
         }
     }
@@ -452,19 +452,19 @@ fn two_frames(name: &[u8], form: Form, next_offset: u64, length: u64, second_nex
 // The field is the LVX code or the LVX2 header size.
 fn header(name: &[u8], form: Form, mark: &[u8], field: u64, devices: u64, base: usize, len: usize) {
     let mut file = [0u8; 16384];
-    livox_file::put(&mut file, 0, mark);
+    livox_bytes::put(&mut file, 0, mark);
     match form {
         Form::Lvx => {
-            livox_file::put_number(&mut file, 20, field);
-            livox_file::put_number(&mut file, 28, devices);
+            livox_bytes::put_number(&mut file, 20, field);
+            livox_bytes::put_number(&mut file, 28, devices);
         }
         Form::Lvx2 => {
-            livox_file::put_number(&mut file, 8, field);
-            livox_file::put_number(&mut file, 24, devices);
+            livox_bytes::put_number(&mut file, 8, field);
+            livox_bytes::put_number(&mut file, 24, devices);
         }
     }
     let one = b"\x07\x00\x00\x00\x08\x00\x00\x00\x09\x00\x00\x00\x00\x00";
-    livox_file::put_frame(form, &mut file, base, 0, 1, 14, one);
+    livox_bytes::put_frame(form, &mut file, base, 0, 1, 14, one);
     read(name, form, &file, len, false);
 }
 

@@ -2,9 +2,10 @@
 // the call gave back, so that a wrong value changes what is written.
 
 mod file;
+mod livox_bytes;
 mod livox_cases;
-mod livox_file;
 mod ouster_cases;
+mod placing_cases;
 mod show;
 mod velodyne_cases;
 
@@ -12,4 +13,5 @@ fn main() {
     velodyne_cases::run();
     ouster_cases::run();
     livox_cases::run();
+    placing_cases::run();
 }

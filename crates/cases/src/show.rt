@@ -4,6 +4,7 @@ use answers::Answer;
 use libc::STDOUT_FILENO;
 use livox::StoredAnswer;
 use livox::StoredReading;
+use placing::Placed;
 
 // The case, the number, the points and all four kinds; then the numbers of each point told, of which
 // there is room for four, by their bits.
@@ -122,6 +123,20 @@ fn show_reading(reading: StoredReading) {
             write_three(x, y, z);
         }
     }
+}
+
+// The case, the number and, where it is 0, the distance.
+pub(crate) fn show_placed(name: &[u8], placed: Placed) {
+    write(name);
+    write(b":");
+    match placed {
+        Placed::Metres(x) => {
+            write_number(0);
+            write_bits(x);
+        }
+        Placed::Refused(refusal) => write_number(refusal.number() as usize),
+    }
+    write(b"\n");
 }
 
 fn write_three(x: u32, y: u32, z: u32) {

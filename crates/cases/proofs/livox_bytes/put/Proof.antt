@@ -1,8 +1,8 @@
 -- `cases::put` is safe and ends. Assumes nothing.
 use Prim.Native.Nat.{_-_}
 use borrow.Author.Needs.{needs}
-use Rattle.cases.proofs.livox_file.put.Statement.{statement}
-use Rattle.cases.proofs.livox_file.put.Tie as tie
+use Rattle.cases.proofs.livox_bytes.put.Statement.{statement}
+use Rattle.cases.proofs.livox_bytes.put.Tie as tie
 
 abbrev Inv-loop : tie.InvT-loop
 Inv-loop file₀ at bytes i₀ i-end file i = Unit

@@ -1,8 +1,8 @@
 -- `cases::put_number` is safe and ends. Assumes nothing.
 use Prim.Native.Nat.{_-_}
 use borrow.Author.Needs.{needs}
-use Rattle.cases.proofs.livox_file.put_number.Statement.{statement}
-use Rattle.cases.proofs.livox_file.put_number.Tie as tie
+use Rattle.cases.proofs.livox_bytes.put_number.Statement.{statement}
+use Rattle.cases.proofs.livox_bytes.put_number.Tie as tie
 
 abbrev Inv-loop : tie.InvT-loop
 Inv-loop file₀ at n rest₀ i₀ file rest i = Unit
