@@ -94,8 +94,10 @@ fn show_patterns(points: usize, bits: &[u32; 24]) {
 pub(crate) fn show_stored(answer: StoredAnswer) {
     match answer {
         StoredAnswer::Reading(reading) => show_reading(reading),
-        StoredAnswer::NoneOfRank => write(b"  none"),
-        StoredAnswer::Refused(refusal) => write_number(refusal.number() as usize),
+        StoredAnswer::Refused(refusal) => {
+            write(b"  refused");
+            write_number(refusal.number() as usize);
+        }
     }
     write(b"\n");
 }
