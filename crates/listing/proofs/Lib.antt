@@ -1,2 +1,3 @@
 -- The laws of the lines.
+mod Decimal
 mod Lines

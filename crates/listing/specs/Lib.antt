@@ -1,2 +1,3 @@
 -- The lines of the lister.
+pub mod Appended
 pub mod Listing

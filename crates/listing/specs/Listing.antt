@@ -1,12 +1,24 @@
--- What the lister prints of a point: a line of its kind and of its three numbers' patterns.
-use Prim.Native.Nat.{ℕ, _+_, _/_, _%_, _^_}
+-- What the lister prints: a line of what was read or refused, and a line of each point.
+use Prim.Native.Nat.{ℕ, zero, suc, _+_, _/_, _%_, _^_}
 use mathlib.Core.Bool.{cond}
 use mathlib.Core.List.{List, [], _∷_, _++_, map}
 use lib.Dec.{ltb, eqb}
+use Rattle.answers.specs.declared.Refusal.{Refusal}
+use Rattle.answers.specs.Answer.{refusalNumber, refusalPoints}
 
 -- The ASCII code of a hexadecimal digit: 0 to 9, then a to f.
 abbrev pub glyph : ℕ → ℕ
 glyph d = cond (ltb d 10) (48 + d) (87 + d)
+
+-- The decimal digits of n, the most significant first, in at most so many steps.
+unfoldable pub decimalIn : ℕ → ℕ → List ℕ
+decimalIn zero n = []
+decimalIn (suc steps) n = cond (ltb n 10) [] (decimalIn steps (n / 10)) ++ glyph (n % 10) ∷ []
+
+-- The decimal digits of n, with no zero in front of another digit. n + 1 steps are enough, and more change nothing: `steps-enough`.
+unfoldable pub decimal : ℕ → List ℕ
+unfolding decimalIn
+decimal n = decimalIn (suc n) n
 
 -- Eight hexadecimal digits, the most significant first.
 unfoldable pub hexDigits : ℕ → List ℕ
@@ -16,11 +28,31 @@ hexDigits n = map (λ place. glyph (n / 16 ^ place % 16)) (7 ∷ 6 ∷ 5 ∷ 4 �
 unfoldable pub letter : ℕ → ℕ
 letter kind = cond (eqb kind 1) 99 112
 
-abbrev space : ℕ
+-- `points `
+abbrev pub pointsText : List ℕ
+pointsText = 112 ∷ 111 ∷ 105 ∷ 110 ∷ 116 ∷ 115 ∷ 32 ∷ []
+
+-- ` frames `
+abbrev pub framesText : List ℕ
+framesText = 32 ∷ 102 ∷ 114 ∷ 97 ∷ 109 ∷ 101 ∷ 115 ∷ 32 ∷ []
+
+-- `refused `
+abbrev pub refusedText : List ℕ
+refusedText = 114 ∷ 101 ∷ 102 ∷ 117 ∷ 115 ∷ 101 ∷ 100 ∷ 32 ∷ []
+
+abbrev pub space : ℕ
 space = 32
 
-abbrev lineEnd : ℕ
+abbrev pub lineEnd : ℕ
 lineEnd = 10
+
+-- `points N frames F`
+unfoldable pub headLine : ℕ → ℕ → List ℕ
+headLine points frames = pointsText ++ decimal points ++ framesText ++ decimal frames ++ lineEnd ∷ []
+
+-- `refused K`, and for 10 `refused 10 N` with the points needed
+unfoldable pub refusalLine : Refusal → List ℕ
+refusalLine refusal = refusedText ++ decimal (refusalNumber refusal) ++ cond (eqb (refusalNumber refusal) 10) (space ∷ decimal (refusalPoints refusal)) [] ++ lineEnd ∷ []
 
 -- The letter of the point's kind and its three numbers, a space before each.
 unfoldable pub pointLine : ℕ → ℕ → ℕ → ℕ → List ℕ
