@@ -13,23 +13,17 @@ abbrev μ-loop : tie.MeasureT-loop
 loop-holds : tie.Need-loop-holds Inv-loop μ-loop
 loop-holds c = search needs
 
-returns : tie.Need-returns Inv-loop μ-loop
-returns c = search needs
-
-returns-2 : tie.Need-returns-2 Inv-loop μ-loop
-returns-2 c = search needs
-
 mul-at : tie.Need-mul-at Inv-loop μ-loop
 mul-at c = search needs
 
-shared-slice-read-point-line : tie.Need-shared-slice-read-point-line Inv-loop μ-loop
-shared-slice-read-point-line c = search needs
+element-copy-out-point-line : tie.Need-element-copy-out-point-line Inv-loop μ-loop
+element-copy-out-point-line c = search needs
 
 mul-point-line : tie.Need-mul-point-line Inv-loop μ-loop
 mul-point-line c = search needs
 
-shared-slice-read-point-line-2 : tie.Need-shared-slice-read-point-line-2 Inv-loop μ-loop
-shared-slice-read-point-line-2 c = search needs
+element-copy-out-point-line-2 : tie.Need-element-copy-out-point-line-2 Inv-loop μ-loop
+element-copy-out-point-line-2 c = search needs
 
 add-point-line : tie.Need-add-point-line Inv-loop μ-loop
 add-point-line c = search needs
@@ -37,8 +31,8 @@ add-point-line c = search needs
 mul-point-line-2 : tie.Need-mul-point-line-2 Inv-loop μ-loop
 mul-point-line-2 c = search needs
 
-shared-slice-read-point-line-3 : tie.Need-shared-slice-read-point-line-3 Inv-loop μ-loop
-shared-slice-read-point-line-3 c = search needs
+element-copy-out-point-line-3 : tie.Need-element-copy-out-point-line-3 Inv-loop μ-loop
+element-copy-out-point-line-3 c = search needs
 
 add-point-line-2 : tie.Need-add-point-line-2 Inv-loop μ-loop
 add-point-line-2 c = search needs
@@ -46,8 +40,8 @@ add-point-line-2 c = search needs
 mul-point-line-3 : tie.Need-mul-point-line-3 Inv-loop μ-loop
 mul-point-line-3 c = search needs
 
-shared-slice-read-point-line-4 : tie.Need-shared-slice-read-point-line-4 Inv-loop μ-loop
-shared-slice-read-point-line-4 c = search needs
+element-copy-out-point-line-4 : tie.Need-element-copy-out-point-line-4 Inv-loop μ-loop
+element-copy-out-point-line-4 c = search needs
 
 point-line-requires : tie.Need-point-line-requires Inv-loop μ-loop
 point-line-requires c κs = search needs
@@ -67,8 +61,8 @@ loop-less c = search needs
 loop-again : tie.Need-loop-again Inv-loop μ-loop
 loop-again c = search needs
 
-returns-3 : tie.Need-returns-3 Inv-loop μ-loop
-returns-3 c = search needs
+returns : tie.Need-returns Inv-loop μ-loop
+returns c = search needs
 
 pub list-points-spec : {M : Type 1} → statement M
 list-points-spec =
@@ -77,22 +71,20 @@ list-points-spec =
     Inv-loop
     μ-loop
     loop-holds
-    returns
-    returns-2
     mul-at
-    shared-slice-read-point-line
+    element-copy-out-point-line
     mul-point-line
-    shared-slice-read-point-line-2
+    element-copy-out-point-line-2
     add-point-line
     mul-point-line-2
-    shared-slice-read-point-line-3
+    element-copy-out-point-line-3
     add-point-line-2
     mul-point-line-3
-    shared-slice-read-point-line-4
+    element-copy-out-point-line-4
     point-line-requires
     slice-aggregate-write
     write-requires
     add-k
     loop-less
     loop-again
-    returns-3)
+    returns)

@@ -1,0 +1,2 @@
+-- The law that what was read had room.
+mod Room
