@@ -1,20 +1,20 @@
--- `cases::put_number` is safe and ends. Assumes nothing.
+-- `livox_cases::put` is safe and ends. Assumes nothing.
 use Prim.Native.Nat.{_-_}
 use borrow.Author.Needs.{needs}
-use Rattle.cases.proofs.livox_bytes.put_number.Statement.{statement}
-use Rattle.cases.proofs.livox_bytes.put_number.Tie as tie
+use Rattle.livox_cases.proofs.livox_bytes.put.Statement.{statement}
+use Rattle.livox_cases.proofs.livox_bytes.put.Tie as tie
 
 abbrev Inv-loop : tie.InvT-loop
-Inv-loop file₀ at n rest₀ i₀ file rest i = Unit
+Inv-loop file₀ at bytes i₀ i-end file i = Unit
 
 abbrev μ-loop : tie.MeasureT-loop
-μ-loop file₀ at n rest₀ i₀ file rest i = 8 - i
+μ-loop file₀ at bytes i₀ i-end file i = i-end - i
 
 loop-holds : tie.Need-loop-holds Inv-loop μ-loop
 loop-holds c = search needs
 
-cast-file : tie.Need-cast-file Inv-loop μ-loop
-cast-file c = search needs
+shared-slice-read-file : tie.Need-shared-slice-read-file Inv-loop μ-loop
+shared-slice-read-file c = search needs
 
 add-file : tie.Need-add-file Inv-loop μ-loop
 add-file c = search needs
@@ -37,18 +37,22 @@ returns c = search needs
 returns-2 : tie.Need-returns-2 Inv-loop μ-loop
 returns-2 c = search needs
 
-pub put-number-spec : {M : Type 1} → statement M
-put-number-spec =
+returns-3 : tie.Need-returns-3 Inv-loop μ-loop
+returns-3 c = search needs
+
+pub put-spec : {M : Type 1} → statement M
+put-spec =
     tie.close
     (tie.spec
     Inv-loop
     μ-loop
     loop-holds
-    cast-file
+    shared-slice-read-file
     add-file
     element-write-file
     add-i
     loop-less
     loop-again
     returns
-    returns-2)
+    returns-2
+    returns-3)

@@ -1,8 +1,8 @@
--- `cases::show_patterns` is safe and ends. Assumes nothing.
+-- `livox_cases::show_patterns` is safe and ends. Assumes nothing.
 use Prim.Native.Nat.{_-_}
 use borrow.Author.Needs.{needs}
-use Rattle.cases.proofs.show.show_patterns.Statement.{statement}
-use Rattle.cases.proofs.show.show_patterns.Tie as tie
+use Rattle.livox_cases.proofs.show.show_patterns.Statement.{statement}
+use Rattle.livox_cases.proofs.show.show_patterns.Tie as tie
 
 abbrev Inv-loop : tie.InvT-loop
 Inv-loop points bits i₀ t4 i = Unit
