@@ -59,7 +59,7 @@ fn compare_file(
 }
 
 /// The first files have the lengths 0, 1, 2, .. in order. Later ones lie at or near a multiple of 16.
-fn file(random: &mut Random, case: u64) -> Vec<u8> {
+pub fn file(random: &mut Random, case: u64) -> Vec<u8> {
     let length = if case <= 6 * RECORD as u64 {
         case as usize
     } else {

@@ -115,24 +115,29 @@ fn hold_rank(
     let (0, encoding, numbers) = stored else {
         return Err(format!("{stored:?} instead of a reading"));
     };
-    // As lidar.rs turns each into a point.
-    let point = match encoding {
-        1 => numbers.map(|x| (x as i32 as f32 / 1000.0).to_bits()),
-        2 => numbers.map(|x| (x as i16 as f32 * 0.01).to_bits()),
-        3 => [
-            (numbers[0] as u32 as f32 / 1000.0).to_bits(),
-            (numbers[1] as u16 as f32 * 0.01).to_bits(),
-            (numbers[2] as u16 as f32 * 0.01).to_bits(),
-        ],
-        _ => numbers.map(|x| x as u32),
-    };
-    if point != bits || kind != 1 + u8::from(encoding == 3) {
+    let (point, point_kind) = point_of(encoding, numbers);
+    if point != bits || point_kind != kind {
         return Err(format!("{stored:?} is not {bits:08x?} of kind {kind}"));
     }
     match encoding {
         1 => placing::hold_moved(placed, numbers[0] as i128 * 1_000, belt),
         2 => placing::hold_moved(placed, numbers[0] as i128 * 10_000, belt),
         _ => placing::hold_refused(placed, 11),
+    }
+}
+
+/// A stored reading as a point, as lidar.rs turns each encoding into one: the patterns and the kind.
+pub fn point_of(encoding: u8, numbers: [i64; 3]) -> ([u32; 3], u8) {
+    match encoding {
+        1 => (numbers.map(|x| (x as i32 as f32 / 1000.0).to_bits()), 1),
+        2 => (numbers.map(|x| (x as i16 as f32 * 0.01).to_bits()), 1),
+        3 => {
+            let [depth, zenith, azimuth] = numbers;
+            let angle = |n: i64| (n as u16 as f32 * 0.01).to_bits();
+            let range = (depth as u32 as f32 / 1000.0).to_bits();
+            ([range, angle(zenith), angle(azimuth)], 2)
+        }
+        _ => (numbers.map(|x| x as u32), 1),
     }
 }
 

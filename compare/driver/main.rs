@@ -5,6 +5,7 @@
 
 mod capture_files;
 mod captures;
+mod cases;
 mod kitti;
 mod lent;
 mod lister;
@@ -37,7 +38,7 @@ struct Programs {
 /// What is compared: its name, and the comparison.
 type Comparison = (&'static str, fn(&Programs, u64, u64) -> Tally);
 
-const COMPARISONS: [Comparison; 14] = [
+const COMPARISONS: [Comparison; 15] = [
     ("kitti", |run, seed, files| {
         kitti::compare(&run.original, seed, files)
     }),
@@ -78,6 +79,8 @@ const COMPARISONS: [Comparison; 14] = [
     ("lister", |run, seed, files| {
         lister::compare(&run.original, &run.lister, seed, files.div_ceil(10))
     }),
+    // The same list each time, whatever the seed.
+    ("cases", |run, _, _| cases::compare(&run.original)),
     // A placing takes no file and is quick.
     ("placing", |_, seed, files| {
         placing::compare(seed, files.saturating_mul(10))
@@ -92,6 +95,10 @@ fn main() -> ExitCode {
     let (Ok(seed), Ok(files)) = (seed.parse(), files.parse()) else {
         return usage();
     };
+    if named == ["more-cases"] {
+        cases::print_more(seed, files);
+        return ExitCode::SUCCESS;
+    }
     if named
         .iter()
         .any(|name| COMPARISONS.iter().all(|(known, _)| known != name))

@@ -133,7 +133,7 @@ fn settings(random: &mut Random) -> OusterSettings {
     }
 }
 
-fn packet(random: &mut Random, settings: &OusterSettings) -> Vec<u8> {
+pub fn packet(random: &mut Random, settings: &OusterSettings) -> Vec<u8> {
     // The settings that are refused are met with packets of one column.
     let columns = match settings.columns_per_packet {
         columns @ 1..=64 => columns,

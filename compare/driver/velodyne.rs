@@ -96,7 +96,7 @@ pub fn compare_packets(seed: u64, files: u64) -> Tally {
 }
 
 /// Most have the least length that is read, and one of the bytes that name a model.
-fn packet(random: &mut Random) -> Vec<u8> {
+pub fn packet(random: &mut Random) -> Vec<u8> {
     let length = match random.below(20) {
         0 => PACKET - 1,
         1 => PACKET + 1,

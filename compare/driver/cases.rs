@@ -1,0 +1,416 @@
+//! The kept list of cases: holds what the program `cases` is to write to the oracle, and makes more
+//! lines for the list. `crates/cases/src/main.rt` says what a line is.
+
+use crate::capture_files;
+use crate::livox_files::{self, Form};
+use crate::original::{self, Original};
+use crate::ours::{Belt, OusterSettings};
+use crate::random::Random;
+use crate::reading::{Expected, CARTESIAN};
+use crate::tally::Tally;
+use crate::words::{self, Reading};
+use crate::{kitti, livox, ours, ouster, placing, velodyne};
+
+const LIST: &str = "crates/cases/stdin";
+const KEPT: &str = "crates/cases/stdout";
+
+/// The bytes of a line that is made, at most, so that the list stays short.
+const LONGEST: usize = 420;
+
+/// The same for packets.
+const LONGEST_PACKETS: usize = 4000;
+
+/// As the program writes them, by the number that the C form has for each.
+const ENCODINGS: [&str; 4] = ["millimetres", "ten millimetres", "spherical", "float"];
+
+/// What the calls find in slices that they leave alone.
+const KIND_BEFORE: u8 = 9;
+
+/// A line of the list.
+struct Case<'a> {
+    name: &'a str,
+    call: &'a str,
+    numbers: Vec<u64>,
+    data: Vec<u8>,
+}
+
+pub fn compare(original: &Original) -> Tally {
+    let list = std::fs::read_to_string(LIST).expect("the list of cases could not be read");
+    let kept = std::fs::read_to_string(KEPT).expect("the kept answers could not be read");
+    let mut tally = Tally::new("the kept list", 0).of("cases");
+    for (k, (line, kept)) in std::iter::zip(list.lines(), kept.lines()).enumerate() {
+        tally.file(k as u64, &[], |_| {
+            let case = parse(line).ok_or_else(|| format!("no case: {line}"))?;
+            let told = kept
+                .strip_prefix(case.name)
+                .and_then(|rest| rest.strip_prefix(": "))
+                .ok_or_else(|| format!("no answer to {}: {kept}", case.name))?;
+            case.hold(original, told)
+                .map_err(|what| format!("{}: {what}", case.name))
+        });
+    }
+    if list.lines().count() != kept.lines().count() {
+        tally.beside("the lists", Err("are not of the same length".to_string()));
+    }
+    tally
+}
+
+/// Lines for the list, on standard output.
+pub fn print_more(seed: u64, of_each: u64) {
+    for case in 0..of_each {
+        let mut random = Random::of_case(seed, case);
+        let room = random.within(0, 8);
+        let reading = random.pick(&[Reading::Rust, Reading::Savefile]);
+        let read = u8::from(reading == Reading::Savefile);
+        let kitti = short(&mut random, LONGEST, |random| kitti::file(random, 1000));
+        print(case, "kitti", &kitti, &format!("{room}"));
+        print(case, "kitti-bits", &kitti, &format!("{room}"));
+        let capture = short(&mut random, LONGEST, |random| {
+            capture_files::file(random, 1000, reading).data
+        });
+        let (port, rank) = (random.pick(&[0, 0, 2368]), random.within(0, 2));
+        print(case, "payload", &capture, &format!("{read} {port} {rank}"));
+        for (form, name) in [(Form::Lvx, "lvx"), (Form::Lvx2, "lvx2")] {
+            let file = short(&mut random, LONGEST, |random| {
+                livox_files::file(random, 1000, form)
+            });
+            print(case, name, &file, &format!("{room}"));
+            let rank = random.within(0, 3);
+            print(case, &format!("{name}-rank"), &file, &format!("{rank}"));
+            let belt = placing::belt(&mut random);
+            let numbers = format!("{rank} {} {} {}", belt.count, belt.datum, belt.pulse_length);
+            print(case, &format!("place-{name}"), &file, &numbers);
+        }
+        if case % 10 == 0 {
+            print_packets(case, &mut random, room, reading);
+        }
+    }
+}
+
+/// Packets are long, so there are few of them, most of them with few points.
+fn print_packets(case: u64, random: &mut Random, room: usize, reading: Reading) {
+    let read = u8::from(reading == Reading::Savefile);
+    let mut packet = velodyne::packet(random);
+    for (k, byte) in packet.iter_mut().enumerate().take(1200) {
+        if k % 100 >= 4 && random.below(50) > 0 {
+            *byte = 0;
+        }
+    }
+    print(case, "packet", &packet, &format!("{room}"));
+    let capture = capture_files::of_packets(random, reading, 2368, |_| packet.clone());
+    if capture.len() <= LONGEST_PACKETS {
+        print(case, "velodyne", &capture, &format!("{room} {read}"));
+    }
+    let settings = OusterSettings {
+        columns_per_packet: random.within(0, 2),
+        pixels_per_column: random.pick(&[16, 16, 32, 17]),
+        lidar_port: random.pick(&[0, 7502]),
+        beam_altitudes: Vec::new(),
+    };
+    let capture = short(random, LONGEST_PACKETS, |random| {
+        capture_files::of_packets(random, reading, 7502, |random| {
+            ouster::packet(random, &settings)
+        })
+    });
+    let numbers = format!(
+        "{room} {read} {} {} {} {}",
+        settings.columns_per_packet,
+        settings.pixels_per_column,
+        settings.lidar_port,
+        random.pick(&[16, 32, 129]),
+    );
+    print(case, "ouster", &capture, &numbers);
+}
+
+/// A file that is short enough, or else the beginning of one.
+fn short(random: &mut Random, longest: usize, file: impl Fn(&mut Random) -> Vec<u8>) -> Vec<u8> {
+    let mut data = file(random);
+    for _ in 0..100 {
+        if data.len() <= longest {
+            break;
+        }
+        data = file(random);
+    }
+    data.truncate(longest);
+    data
+}
+
+fn print(case: u64, call: &str, data: &[u8], numbers: &str) {
+    println!(
+        "made {case} {call}: {call} {} {numbers}{}",
+        data.len(),
+        put(data)
+    );
+}
+
+/// The bytes as words, without longer runs of zeros.
+fn put(data: &[u8]) -> String {
+    let mut words = String::new();
+    let mut at = 0;
+    while at < data.len() {
+        let zeros = data[at..].iter().take_while(|&&byte| byte == 0).count();
+        if zeros >= 4 || at + zeros == data.len() || words.is_empty() {
+            at += zeros;
+            if at < data.len() {
+                words += &format!(" @{at}={:02x}", data[at]);
+                at += 1;
+            }
+        } else {
+            words += &format!("{:02x}", data[at]);
+            at += 1;
+        }
+    }
+    words
+}
+
+fn parse(line: &str) -> Option<Case<'_>> {
+    let (name, rest) = line.split_once(": ")?;
+    let mut words = rest.split(' ');
+    let call = words.next()?;
+    let mut numbers = Vec::new();
+    let mut data = Vec::new();
+    for word in words {
+        if let Some(word) = word.strip_prefix('@') {
+            let (at, hex) = word.split_once('=')?;
+            let at: usize = at.parse().ok()?;
+            for k in 0..hex.len() / 2 {
+                *data.get_mut(at + k)? = u8::from_str_radix(&hex[2 * k..2 * k + 2], 16).ok()?;
+            }
+        } else {
+            let number = word.parse().ok()?;
+            if numbers.is_empty() {
+                data = vec![0; number as usize];
+            }
+            numbers.push(number);
+        }
+    }
+    Some(Case {
+        name,
+        call,
+        numbers,
+        data,
+    })
+}
+
+impl Case<'_> {
+    fn number(&self, k: usize) -> u64 {
+        self.numbers.get(k).copied().unwrap_or(0)
+    }
+
+    /// Holds what the program is to write to what the oracle tells.
+    fn hold(&self, original: &Original, told: &str) -> Result<(), String> {
+        let data = &self.data[..];
+        match self.call {
+            "lvx-rank" => self.hold_rank(original, Form::Lvx, told),
+            "lvx2-rank" => self.hold_rank(original, Form::Lvx2, told),
+            "place-lvx" => self.hold_in_file(original, Form::Lvx, told),
+            "place-lvx2" => self.hold_in_file(original, Form::Lvx2, told),
+            "millimetres" => {
+                let x = i32::from_le_bytes(data.try_into().map_err(|_| "no i32")?);
+                placing::hold_moved(placed(told)?, x as i128 * 1_000, self.belt(1))
+            }
+            "ten-millimetres" => {
+                let x = i16::from_le_bytes(data.try_into().map_err(|_| "no i16")?);
+                placing::hold_moved(placed(told)?, x as i128 * 10_000, self.belt(1))
+            }
+            "spherical" | "float" => placing::hold_refused(placed(told)?, 11),
+            _ => {
+                let want = self.line(original)?;
+                if told == want {
+                    Ok(())
+                } else {
+                    Err(format!("{told} is kept, and the oracle tells {want}"))
+                }
+            }
+        }
+    }
+
+    /// The whole line of a reader, or of a payload.
+    fn line(&self, original: &Original) -> Result<String, String> {
+        let data = &self.data[..];
+        let cartesian = |read: original::Patterns| match read {
+            Err(number) => Expected::Refused(number),
+            Ok(bits) => Expected::Read {
+                kinds: vec![CARTESIAN; bits.len() / 3],
+                bits,
+                frames: 0,
+            },
+        };
+        let livox = |form| match original.read_livox(form, data) {
+            Err(number) => Expected::Refused(number),
+            Ok((bits, kinds, frames)) => Expected::Read {
+                bits,
+                kinds,
+                frames,
+            },
+        };
+        Ok(match self.call {
+            "kitti" => self.read(cartesian(original.read_kitti(data)), true),
+            "kitti-bits" => self.read(cartesian(original.read_kitti(data)), false),
+            "lvx" => self.read(livox(Form::Lvx), false),
+            "lvx2" => self.read(livox(Form::Lvx2), false),
+            "packet" => {
+                let read = Ok(original::decode_velodyne_packet(data));
+                self.read(Expected::polar(read), true)
+            }
+            "velodyne" => {
+                let read = match self.reading(2) {
+                    Reading::Rust => original.read_velodyne(data),
+                    Reading::Savefile => by_words(data, 2368, original::read_velodyne_payloads),
+                };
+                self.read(Expected::polar(read), true)
+            }
+            "ouster" => self.read(self.ouster(original, self.settings()), true),
+            "os1-64" => self.read(self.ouster(original, original::os1_64()), true),
+            "os-128" => self.read(self.ouster(original, original::os_128()), true),
+            "payload" => self.payload(),
+            call => return Err(format!("no such call: {call}")),
+        })
+    }
+
+    fn reading(&self, k: usize) -> Reading {
+        match self.number(k) {
+            0 => Reading::Rust,
+            _ => Reading::Savefile,
+        }
+    }
+
+    fn settings(&self) -> OusterSettings {
+        OusterSettings {
+            columns_per_packet: self.number(3) as usize,
+            pixels_per_column: self.number(4) as usize,
+            lidar_port: self.number(5) as u16,
+            beam_altitudes: (0..self.number(6).min(129))
+                .map(|k| k as f32 / 2.0)
+                .collect(),
+        }
+    }
+
+    fn ouster(&self, original: &Original, settings: OusterSettings) -> Expected {
+        if words::bad_settings(&settings) {
+            return Expected::Refused(2);
+        }
+        let read = |payloads: &[Vec<u8>]| original::read_ouster_payloads(&settings, payloads);
+        Expected::polar(match self.reading(2) {
+            Reading::Rust => original.read_ouster(&settings, &self.data),
+            Reading::Savefile => by_words(&self.data, settings.lidar_port, read),
+        })
+    }
+
+    fn read(&self, expected: Expected, by_value: bool) -> String {
+        let room = self.number(1) as usize;
+        let (number, points, frames, bits, kinds) = match expected {
+            Expected::Refused(number) => (number, 0, 0, vec![], vec![]),
+            Expected::Read { kinds, .. } if room < kinds.len() => {
+                (10, kinds.len(), 0, vec![], vec![])
+            }
+            Expected::Read {
+                bits,
+                kinds,
+                frames,
+            } => (0, kinds.len(), frames, bits, kinds),
+        };
+        let mut line = format!("{number} {points} {frames} kinds");
+        for k in 0..room {
+            line += &format!(" {}", kinds.get(k).unwrap_or(&KIND_BEFORE));
+        }
+        for (k, &number) in bits.iter().enumerate() {
+            line += if k % 3 == 0 { " |" } else { "" };
+            line += &match by_value && f32::from_bits(number).is_nan() {
+                true => " nan".to_string(),
+                false => format!(" {number:08x}"),
+            };
+        }
+        line
+    }
+
+    fn payload(&self) -> String {
+        let (port, rank) = (self.number(2) as u16, self.number(3) as usize);
+        let places = words::payloads(&self.data, self.reading(1), port, 0);
+        let place = places.get(rank).cloned().unwrap_or(0..0);
+        let hex: String = self.data[place.clone()]
+            .iter()
+            .map(|byte| format!("{byte:02x}"))
+            .collect();
+        format!("{} {} {hex}", place.start, place.len())
+    }
+
+    fn belt(&self, first: usize) -> Belt {
+        Belt {
+            count: self.number(first) as u32,
+            datum: self.number(first + 1) as u32,
+            pulse_length: self.number(first + 2) as u32,
+        }
+    }
+
+    /// The point of the case's rank, by the original: its patterns and its kind, or a number.
+    fn point(&self, original: &Original, form: Form) -> Result<([u32; 3], u8), u8> {
+        let rank = self.number(1) as usize;
+        let (bits, kinds, _) = original.read_livox(form, &self.data)?;
+        let point = bits.chunks(3).nth(rank).ok_or(11)?;
+        Ok(([point[0], point[1], point[2]], kinds[rank]))
+    }
+
+    /// The kept reading, turned into a point, is the original's.
+    fn hold_rank(&self, original: &Original, form: Form, told: &str) -> Result<(), String> {
+        let got = match told.rsplitn(4, ' ').collect::<Vec<_>>()[..] {
+            [z, y, x, encoding] => {
+                let encoding = ENCODINGS.iter().position(|&name| name == encoding);
+                let encoding = encoding.ok_or_else(|| format!("no reading: {told}"))?;
+                let number = |hex| u32::from_str_radix(hex, 16).map_err(|e| e.to_string());
+                let numbers = [number(x)?, number(y)?, number(z)?].map(i64::from);
+                Ok(livox::point_of(encoding as u8 + 1, numbers))
+            }
+            _ => Err(told.parse().map_err(|_| format!("no number: {told}"))?),
+        };
+        let want = self.point(original, form);
+        if got == want {
+            Ok(())
+        } else {
+            Err(format!("{told} is kept, and the oracle tells {want:08x?}"))
+        }
+    }
+
+    /// The original tells the point, which the stored reading has to be; its whole number is placed.
+    fn hold_in_file(&self, original: &Original, form: Form, told: &str) -> Result<(), String> {
+        let got = placed(told)?;
+        let point = match self.point(original, form) {
+            Err(number) => return placing::hold_refused(got, number),
+            Ok(point) => point,
+        };
+        let rank = self.number(1) as usize;
+        let (_, encoding, numbers) = ours::stored_reading(&self.data, form == Form::Lvx2, rank);
+        if livox::point_of(encoding, numbers) != point {
+            return Err("the stored reading is not the original's point".to_string());
+        }
+        match encoding {
+            1 => placing::hold_moved(got, numbers[0] as i128 * 1_000, self.belt(2)),
+            2 => placing::hold_moved(got, numbers[0] as i128 * 10_000, self.belt(2)),
+            _ => placing::hold_refused(got, 11),
+        }
+    }
+}
+
+fn by_words(
+    data: &[u8],
+    port: u16,
+    read: impl Fn(&[Vec<u8>]) -> original::Patterns,
+) -> original::Patterns {
+    match words::number(data) {
+        0 => read(&words::copies(data, Reading::Savefile, port)),
+        number => Err(number),
+    }
+}
+
+/// A placing as the program writes it.
+fn placed(told: &str) -> Result<ours::Placed, String> {
+    let mut words = told.split(' ');
+    let number = words.next().and_then(|word| word.parse().ok());
+    let bits = match words.next() {
+        None => Some(ours::NO_DISTANCE),
+        Some(word) => u32::from_str_radix(word, 16).ok(),
+    };
+    number
+        .zip(bits)
+        .ok_or_else(|| format!("no placing: {told}"))
+}

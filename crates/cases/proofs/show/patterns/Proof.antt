@@ -1,0 +1,54 @@
+-- `show::patterns` is safe and ends. Assumes nothing.
+use Prim.Native.Nat.{_-_}
+use borrow.Author.Needs.{needs}
+use Rattle.cases.proofs.show.patterns.Statement.{statement}
+use Rattle.cases.proofs.show.patterns.Tie as tie
+
+abbrev Inv-loop : tie.InvT-loop
+Inv-loop answer bits i₀ i-end i = Unit
+
+abbrev μ-loop : tie.MeasureT-loop
+μ-loop answer bits i₀ i-end i = i-end - i
+
+loop-holds : tie.Need-loop-holds Inv-loop μ-loop
+loop-holds c = search needs
+
+is-told-requires : tie.Need-is-told-requires Inv-loop μ-loop
+is-told-requires c κs = search needs
+
+mul-write-pattern : tie.Need-mul-write-pattern Inv-loop μ-loop
+mul-write-pattern c = search needs
+
+shared-slice-read-write-pattern : tie.Need-shared-slice-read-write-pattern Inv-loop μ-loop
+shared-slice-read-write-pattern c = search needs
+
+write-pattern-requires : tie.Need-write-pattern-requires Inv-loop μ-loop
+write-pattern-requires c κs = search needs
+
+add-i : tie.Need-add-i Inv-loop μ-loop
+add-i c = search needs
+
+loop-less : tie.Need-loop-less Inv-loop μ-loop
+loop-less c = search needs
+
+loop-again : tie.Need-loop-again Inv-loop μ-loop
+loop-again c = search needs
+
+returns : tie.Need-returns Inv-loop μ-loop
+returns c = search needs
+
+pub patterns-spec : {M : Type 1} → statement M
+patterns-spec =
+    tie.close
+    (tie.spec
+    Inv-loop
+    μ-loop
+    loop-holds
+    is-told-requires
+    mul-write-pattern
+    shared-slice-read-write-pattern
+    write-pattern-requires
+    add-i
+    loop-less
+    loop-again
+    returns)

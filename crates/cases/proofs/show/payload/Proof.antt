@@ -1,0 +1,66 @@
+-- `show::payload` is safe and ends. Assumes nothing.
+use Prim.Native.Nat.{_-_}
+use borrow.Author.Needs.{needs}
+use Rattle.cases.proofs.show.payload.Statement.{statement}
+use Rattle.cases.proofs.show.payload.Tie as tie
+
+abbrev Inv-loop : tie.InvT-loop
+Inv-loop start payload i₀ i-end i = Unit
+
+abbrev μ-loop : tie.MeasureT-loop
+μ-loop start payload i₀ i-end i = i-end - i
+
+write-number-requires : tie.Need-write-number-requires Inv-loop μ-loop
+write-number-requires c κs = search needs
+
+write-number-requires-2 : tie.Need-write-number-requires-2 Inv-loop μ-loop
+write-number-requires-2 c κs = search needs
+
+slice-aggregate-write : tie.Need-slice-aggregate-write Inv-loop μ-loop
+slice-aggregate-write c = search needs
+
+write-requires : tie.Need-write-requires Inv-loop μ-loop
+write-requires c κs = search needs
+
+loop-holds : tie.Need-loop-holds Inv-loop μ-loop
+loop-holds c = search needs
+
+shared-slice-read-small : tie.Need-shared-slice-read-small Inv-loop μ-loop
+shared-slice-read-small c = search needs
+
+small-requires : tie.Need-small-requires Inv-loop μ-loop
+small-requires c κs = search needs
+
+print-hex-requires : tie.Need-print-hex-requires Inv-loop μ-loop
+print-hex-requires c κs = search needs
+
+add-i : tie.Need-add-i Inv-loop μ-loop
+add-i c = search needs
+
+loop-less : tie.Need-loop-less Inv-loop μ-loop
+loop-less c = search needs
+
+loop-again : tie.Need-loop-again Inv-loop μ-loop
+loop-again c = search needs
+
+returns : tie.Need-returns Inv-loop μ-loop
+returns c = search needs
+
+pub payload-spec : {M : Type 1} → statement M
+payload-spec =
+    tie.close
+    (tie.spec
+    Inv-loop
+    μ-loop
+    write-number-requires
+    write-number-requires-2
+    slice-aggregate-write
+    write-requires
+    loop-holds
+    shared-slice-read-small
+    small-requires
+    print-hex-requires
+    add-i
+    loop-less
+    loop-again
+    returns)
