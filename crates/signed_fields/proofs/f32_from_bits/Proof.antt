@@ -1,4 +1,4 @@
--- `fields::f32_from_bits` meets its contract. The test tells the patterns that are a NaN's from the others (`nanBits-above`), and 0.0 / 0.0 is the NaN.
+-- `signed_fields::f32_from_bits` meets its contract. The test tells the patterns that are a NaN's from the others (`nanBits-above`), and 0.0 / 0.0 is the NaN.
 -- Assumes nothing.
 use mathlib.Core.Path.{_≡_, refl, sym, _∙_, subst}
 use mathlib.Core.Bool.{Bool, true, false, not}
@@ -7,8 +7,8 @@ use lib.Dec.{T}
 use lib.Ieee.{Float, nan, inf, fin, binary32, div, ofBits, isNan, nanBits}
 use lib.Ieee.Bits.{nanBits-is, nanBits-above}
 use borrow.Author.Tests.{lt-ltb, le-ltb}
-use Rattle.fields.proofs.f32_from_bits.Statement.{statement}
-use Rattle.fields.proofs.f32_from_bits.Tie as tie
+use Rattle.signed_fields.proofs.f32_from_bits.Statement.{statement}
+use Rattle.signed_fields.proofs.f32_from_bits.Tie as tie
 
 -- 0.0 / 0.0 as MIR has it, with 0.0 by its pattern
 zero-by-zero : div binary32 (ofBits binary32 0) (ofBits binary32 0) ≡ nan

@@ -9,7 +9,7 @@ use borrow.Author.Tests.{lt-ltb, le-ltb}
 use mir.Syntax.{Width}
 use mir.Val.{SFits, bits, hbits, toZ, ofZ}
 use mir.ValLaws.{toZ-ofZ, toZ-pos}
-use Rattle.fields.specs.Number.{signed}
+use Rattle.signed_fields.specs.Signed.{signed}
 
 signed-low : (w n : ℕ) → n < 2 ^ (w - 1) → signed w n ≡ pos n
 unfolding signed

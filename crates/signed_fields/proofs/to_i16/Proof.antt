@@ -1,11 +1,11 @@
--- `fields::to_i16` meets its contract. The branches are the two halves of two's complement. Assumes nothing.
+-- `signed_fields::to_i16` meets its contract. The branches are the two halves of two's complement. Assumes nothing.
 use borrow.Author.Needs.{needs}
 use native.Mathlib.Omega.{arith}
 use Prim.Native.Nat.{_-_}
 use mir.Syntax.{w16}
-use Rattle.fields.proofs.Signed.{low, high, high-fits}
-use Rattle.fields.proofs.to_i16.Statement.{statement}
-use Rattle.fields.proofs.to_i16.Tie as tie
+use Rattle.signed_fields.proofs.Signed.{low, high, high-fits}
+use Rattle.signed_fields.proofs.to_i16.Statement.{statement}
+use Rattle.signed_fields.proofs.to_i16.Tie as tie
 
 cast-result : tie.Need-cast-result
 cast-result c = search needs
