@@ -1,5 +1,5 @@
-// Byte readers: an unsigned number at any offset of a byte slice, in either byte order. A number that does
-// not lie whole inside the slice is told as missing.
+// Byte readers: an unsigned number at any offset of a byte slice, in either byte order. A number
+// that does not lie whole inside the slice is told as missing.
 
 ghost use mathlib.Core.Path.{_≡_};
 ghost use mathlib.Core.List.{[], _∷_};
