@@ -1,6 +1,8 @@
 // KITTI files, as include/lidar.h declares the calls.
 
 use c_form::tell;
+use kitti::read_kitti;
+use kitti_bits::read_kitti_bits;
 ghost use mathlib.Core.Path.{_≡_};
 ghost use Rattle.points.specs.ReadInto.{outcome};
 ghost use Rattle.kitti.specs.Kitti.{readKitti, readKittiBits};
@@ -15,7 +17,7 @@ pub extern "C" fn lidar_read_kitti(
 ) -> u8
     ensures { λ r. ⌜ outcome r (now (points .exit)) (now (frames .exit)) (now (numbers .exit)) (now (kinds .exit)) ≡ readKitti (now («data» .entry)) (now (numbers .entry)) (now (kinds .entry)) ⌝ }
 {
-    tell(kitti::read_kitti(data, numbers, kinds), points, frames)
+    tell(read_kitti(data, numbers, kinds), points, frames)
 }
 
 #[no_mangle]
@@ -28,5 +30,5 @@ pub extern "C" fn lidar_read_kitti_bits(
 ) -> u8
     ensures { λ r. ⌜ outcome r (now (points .exit)) (now (frames .exit)) (now (bits .exit)) (now (kinds .exit)) ≡ readKittiBits (now («data» .entry)) (now (bits .entry)) (now (kinds .entry)) ⌝ }
 {
-    tell(kitti::read_kitti_bits(data, bits, kinds), points, frames)
+    tell(read_kitti_bits(data, bits, kinds), points, frames)
 }

@@ -2,8 +2,6 @@
 
 use crate::show;
 use crate::words;
-use fields::I16;
-use fields::I32;
 use lidar::BeltCount;
 use lidar::BeltDatum;
 use lidar::Form;
@@ -13,6 +11,8 @@ use lidar::PulseLength;
 use lidar::StoredReading;
 use lidar::TenMillimetres;
 use lidar::UnsignedMillimetres;
+use signed_fields::I16;
+use signed_fields::I32;
 
 pub(crate) fn run(name: &[u8], n: &[u64; 8], data: &[u8]) -> bool {
     if check::same(name, b"place-lvx") {
@@ -51,14 +51,14 @@ fn run_other(name: &[u8], n: &[u64; 8]) -> bool {
 }
 
 fn millimetres(data: &[u8]) -> StoredReading {
-    let I32::Value(x) = fields::read_i32_le(data, 0) else {
+    let I32::Value(x) = signed_fields::read_i32_le(data, 0) else {
         return spherical();
     };
     StoredReading::Millimetres(Millimetres(x), Millimetres(0), Millimetres(0))
 }
 
 fn ten_millimetres(data: &[u8]) -> StoredReading {
-    let I16::Value(x) = fields::read_i16_le(data, 0) else {
+    let I16::Value(x) = signed_fields::read_i16_le(data, 0) else {
         return spherical();
     };
     StoredReading::TenMillimetres(TenMillimetres(x), TenMillimetres(0), TenMillimetres(0))

@@ -3,7 +3,8 @@ use Prim.Native.Nat.{ℕ}
 use mathlib.Core.List.{List, [], _∷_, map, flatMap}
 use lib.IntN.{ℤ}
 use lib.Ieee.{binary32, ofBits, toBits, round, ofInt, add, sub, mul, div, lt, le}
-use Rattle.fields.specs.Number.{unsignedAt, signed}
+use Rattle.fields.specs.Number.{unsignedAt}
+use Rattle.signed_fields.specs.Signed.{signed}
 use Rattle.units.specs.Conversions.{metresOfTwoMillimetres, metresOfMillimetres, degreesByDivision}
 use Rattle.points.specs.ReadInto.{Outcome, tooLong, firstRefusal, numberGiven, mapOutcome, over, readInto}
 use Rattle.points.specs.Tabulate.{tabulate, gather}

@@ -1,44 +1,23 @@
--- Laws of `unsignedAt` and `field`, for any width and byte order. Bytes that lie inside are a run that can be written out, byte by byte
--- (`number-run`), and a unsignedAt of j + k bytes is one of j and one of k (`number-join`). Assumes nothing.
-use Prim.Native.Nat.{ℕ, zero, suc, _+_, _-_, _*_, _^_, _≤_, _<_}
-use native.Mathlib.Nat.{add-zero, zero-add, add-suc, add-assoc, one-mul, mul-add, mul-assoc, pow-succ'}
+-- Laws of `unsignedAt` and `field`, for either byte order. A number of two bytes that lie inside is written out (`number-two`), and one of k + k bytes is
+-- made of two of k (`number-halves`). Assumes nothing.
+use Prim.Native.Nat.{ℕ, zero, suc, _+_, _*_, _^_, _≤_, _<_}
+use native.Mathlib.Nat.{zero-add, add-assoc, one-mul, mul-add, mul-assoc, pow-succ'}
 use native.Mathlib.Omega.{arith}
 use mathlib.Core.Path.{_≡_, refl, sym, ap, _∙_}
-use mathlib.Core.Bool.{Bool, true, false}
-use mathlib.Core.List.{List, [], _∷_, _++_}
-use lib.ListN.{length, getD, take, drop, length-drop}
+use mathlib.Core.Bool.{Bool, true, false, cond}
+use mathlib.Core.List.{List, [], _∷_, _++_, reverse, reverse-append}
+use lib.ListN.{length, getD, take, drop, length-drop, length-reverse}
 use lib.Seq.{drop-cons, take-add, take-take, drop-drop, length-take-le}
 use lib.Dec.{leb}
 use borrow.Author.Tests.{le-leb, lt-leb, leb-true, leb-false}
 use Rattle.fields.specs.Number.{ByteOrder, little, big, value, leastFirst, unsignedAt, field}
 
--- off + i, and off itself for i = 0, as code writes it
-abbrev pub at : ℕ → ℕ → ℕ
-at off zero = off
-at off (suc i) = off + suc i
-
-at-is : (off i : ℕ) → at off i ≡ off + i
-at-is off zero = sym (add-zero off)
-at-is off (suc i) = refl
-
--- the k bytes from off + i on, each by its index
-abbrev pub run : List ℕ → ℕ → ℕ → ℕ → List ℕ
-run s off i zero = []
-run s off i (suc k) = getD s (at off i) 0 ∷ run s off (suc i) k
-
-run-is : (s : List ℕ) (off i k : ℕ) → off + i + k ≤ length s → take k (drop (off + i) s) ≡ run s off i k
-run-is s off i zero h = refl
-run-is s off i (suc k) h =
-    let inside : off + i < length s = omega arith in
-    let rest : off + suc i + k ≤ length s = omega arith in
-    rw (drop-cons s (off + i) 0, at-is off i, ← add-suc) (ap (λ (t : List ℕ). getD s (off + i) 0 ∷ t) (run-is s off (suc i) k rest))
-
--- The law of the widths: a number that lies inside, by its bytes.
-pub number-run : (o : ByteOrder) (k : ℕ) (s : List ℕ) (off : ℕ) → off + k ≤ length s → unsignedAt o k s off ≡ value (leastFirst o (run s off 0 k))
+-- Two bytes that lie inside, each by its index.
+pub number-two : (o : ByteOrder) (s : List ℕ) (off : ℕ) → off + 2 ≤ length s → unsignedAt o 2 s off ≡ value (leastFirst o (getD s off 0 ∷ getD s (off + 1) 0 ∷ []))
 unfolding unsignedAt
-number-run o k s off h =
-    let inside : off + 0 + k ≤ length s = omega arith in
-    ap (λ (n : ℕ). value (leastFirst o (take k (drop n s)))) (sym (add-zero off)) ∙ ap (λ (w : List ℕ). value (leastFirst o w)) (run-is s off 0 k inside)
+number-two o s off h =
+    let next : suc off ≡ off + 1 = omega arith in
+    rw (drop-cons s off 0 (omega arith), drop-cons s (suc off) 0 (omega arith), next)
 
 value-append : (a b : List ℕ) → value (a ++ b) ≡ value a + 256 ^ length a * value b
 value-append [] b = sym (zero-add (1 * value b) ∙ one-mul (value b))
@@ -46,12 +25,24 @@ value-append (x ∷ a) b =
     let e = value-append a b in
     rw (e, mul-add, pow-succ', mul-assoc, add-assoc)
 
--- A unsignedAt of j + k bytes, from its j least significant ones and the others.
-pub number-join : (j k : ℕ) (s : List ℕ) (off : ℕ) → off + j + k ≤ length s → unsignedAt little (j + k) s off ≡ unsignedAt little j s off + 256 ^ j * unsignedAt little k s (off + j)
+-- Where the two halves of a number of k + k bytes start.
+abbrev pub low : ByteOrder → ℕ → ℕ → ℕ
+low little k off = off
+low big k off = off + k
+
+abbrev pub high : ByteOrder → ℕ → ℕ → ℕ
+high little k off = off + k
+high big k off = off
+
+-- The law of the widths: a number from its two halves.
+pub number-halves : (o : ByteOrder) (k : ℕ) (s : List ℕ) (off : ℕ) → off + k + k ≤ length s → unsignedAt o (k + k) s off ≡ unsignedAt o k s (low o k off) + 256 ^ k * unsignedAt o k s (high o k off)
 unfolding unsignedAt leastFirst
-number-join j k s off h =
-    let room : j ≤ length (drop off s) = simp length-drop (omega arith) in
-    rw (take-add, drop-drop) (value-append (take j (drop off s)) (take k (drop (off + j) s)) ∙ rw (length-take-le j (drop off s) room))
+number-halves little k s off h =
+    let room : k ≤ length (drop off s) = simp length-drop (omega arith) in
+    rw (take-add, drop-drop) (value-append (take k (drop off s)) (take k (drop (off + k) s)) ∙ rw (length-take-le k (drop off s) room))
+number-halves big k s off h =
+    let room : k ≤ length (drop (off + k) s) = simp length-drop (omega arith) in
+    rw (take-add, drop-drop, reverse-append) (value-append (reverse (take k (drop (off + k) s))) (reverse (take k (drop off s))) ∙ rw (length-reverse, length-take-le k (drop (off + k) s) room))
 
 part : (k off n : ℕ) (l : List ℕ) → off + k ≤ n → take k (drop off (take n l)) ≡ take k (drop off l)
 part k zero n l h = take-take k n l (omega arith)
@@ -81,3 +72,12 @@ module _ {A : Type 0} (wrap : ℕ → A) (missing : A) (o : ByteOrder) (k : ℕ)
 
     pub answer-outside : b ≡ false → missing ≡ field wrap missing o k s off
     answer-outside t = sym (field-outside (leb-false (off + k) (length s) (sym test ∙ t)))
+
+cond-map : {A B : Type 0} (f : A → B) (b : Bool) (x y : A) → f (cond b x y) ≡ cond b (f x) (f y)
+cond-map f true x y = refl
+cond-map f false x y = refl
+
+-- A field that is wrapped anew.
+pub field-map : {A B : Type 0} (f : A → B) (wrap : ℕ → A) (missing : A) (o : ByteOrder) (k : ℕ) (s : List ℕ) (off : ℕ) → f (field wrap missing o k s off) ≡ field (λ n. f (wrap n)) (f missing) o k s off
+unfolding field
+field-map f wrap missing o k s off = cond-map f (leb (off + k) (length s)) (wrap (unsignedAt o k s off)) missing

@@ -1,10 +1,9 @@
 -- A number in a run of bytes, for any width and byte order.
-use Prim.Native.Nat.{ℕ, zero, suc, _+_, _-_, _*_, _^_}
+use Prim.Native.Nat.{ℕ, _+_, _*_}
 use mathlib.Core.Bool.{cond}
 use mathlib.Core.List.{List, [], _∷_, reverse}
 use lib.ListN.{length, take, drop}
-use lib.Dec.{leb, ltb}
-use lib.IntN.{ℤ, pos, subℕ}
+use lib.Dec.{leb}
 
 -- Which byte comes first: the least significant one, or the most significant one, as in captures.
 pub data ByteOrder : Type 0 where
@@ -24,10 +23,6 @@ leastFirst big bs = reverse bs
 unfoldable pub unsignedAt : ByteOrder → ℕ → List ℕ → ℕ → ℕ
 unfolding leastFirst
 unsignedAt o k s off = value (leastFirst o (take k (drop off s)))
-
--- Two's complement at w bits, for n below 2 ^ w: from 2 ^ (w - 1) on, n stands for n - 2 ^ w.
-unfoldable pub signed : ℕ → ℕ → ℤ
-signed w n = cond (ltb n (2 ^ (w - 1))) (pos n) (subℕ n (2 ^ w))
 
 -- What a reader of k bytes at off answers: the number, wrapped as a value, or `missing` where the k bytes do not lie inside s.
 unfoldable pub field : {A : Type 0} → (ℕ → A) → A → ByteOrder → ℕ → List ℕ → ℕ → A

@@ -1,4 +1,4 @@
 -- What the proofs of both forms share, the records and the table of checks, and that the forms agree.
-mod Checks
+pub mod Checks
 pub mod Forms
-mod Records
+pub mod Records

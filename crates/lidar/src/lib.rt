@@ -8,7 +8,7 @@ pub use capture::Step;
 pub use capture::open;
 pub use capture::open_as;
 pub use kitti::read_kitti;
-pub use kitti::read_kitti_bits;
+pub use kitti_bits::read_kitti_bits;
 pub use livox::Form;
 pub use livox::Lvx2DataType;
 pub use livox::LvxDataType;

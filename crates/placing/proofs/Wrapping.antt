@@ -9,7 +9,7 @@ use mathlib.Core.Bool.{cond}
 use lib.Dec.{ltb}
 use lib.IntN.{ℤ, pos, negsuc, natAbs, subℕ, _-ℤ_, +ℤ-idr}
 use borrow.Author.Tests.{lt-ltb, le-ltb}
-use Rattle.fields.specs.Number.{signed}
+use Rattle.signed_fields.specs.Signed.{signed}
 use Rattle.placing.specs.Placing.{pulses}
 use Rattle.placing.specs.Accuracy.{low32}
 

@@ -7,7 +7,7 @@ use lib.Dec.{ltb}
 use lib.IntN.{ℤ, pos, negℤ, _+ℤ_, _*ℤ_}
 use lib.Signed.{ltZ, mag}
 use lib.Ieee.{Float, binary32, ofInt, round, div}
-use Rattle.fields.specs.Number.{signed}
+use Rattle.signed_fields.specs.Signed.{signed}
 use Rattle.answers.specs.Answer.{refusalNumber}
 use Rattle.points.specs.ReadInto.{Check, firstRefusal}
 use Rattle.livox_stored.specs.Stored.{Stored, millimetres, tenMillimetres, spherical, float}

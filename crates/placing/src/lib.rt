@@ -55,7 +55,7 @@ pub fn place(
 pub fn pulses(count: BeltCount, datum: BeltDatum) -> BeltPulses
     ensures { λ r. ⌜ r .0 ≡ pulses (count .0) (datum .0) ⌝ }
 {
-    BeltPulses(fields::to_i32(wrapped(count.0, datum.0)))
+    BeltPulses(signed_fields::to_i32(wrapped(count.0, datum.0)))
 }
 
 fn wrapped(count: u32, datum: u32) -> u32

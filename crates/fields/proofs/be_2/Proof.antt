@@ -1,8 +1,8 @@
--- `fields::be_2` meets its contract. Its bytes are the run that `number-run` writes out. Assumes nothing.
+-- `fields::be_2` meets its contract. Its bytes are those that `number-two` writes out. Assumes nothing.
 use borrow.Author.Needs.{needs}
 use mathlib.Core.Path.{sym, _∙_}
 use Rattle.fields.specs.Number.{big, leastFirst}
-use Rattle.fields.proofs.Laws.{number-run}
+use Rattle.fields.proofs.Laws.{number-two}
 use Rattle.fields.proofs.be_2.Statement.{statement}
 use Rattle.fields.proofs.be_2.Tie as tie
 
@@ -20,7 +20,7 @@ join-2-requires c κs = search needs
 
 returns : tie.Need-returns
 unfolding leastFirst
-returns c = c .join-2 .ensures ∙ sym (number-run big 2 _ _ (c .before .before .before .before .pre))
+returns c = c .join-2 .ensures ∙ sym (number-two big _ _ (c .before .before .before .before .pre))
 
 pub be-2-spec : {M : Type 1} → statement M
 be-2-spec = tie.close (tie.spec add-join-2 shared-slice-read-join-2 shared-slice-read-join-2-2 join-2-requires returns)

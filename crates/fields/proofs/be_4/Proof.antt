@@ -1,38 +1,36 @@
--- `fields::be_4` meets its contract. Its bytes are the run that `number-run` writes out. Assumes nothing.
+-- `fields::be_4` meets its contract: its halves are two numbers of two bytes, by the law `number-halves`. Assumes nothing.
 use borrow.Author.Needs.{needs}
-use mathlib.Core.Path.{sym, _∙_}
-use Rattle.fields.specs.Number.{big, leastFirst}
-use Rattle.fields.proofs.Laws.{number-run}
+use native.Mathlib.Omega.{arith}
+use Rattle.fields.specs.Number.{big}
+use Rattle.fields.proofs.Laws.{number-halves}
 use Rattle.fields.proofs.be_4.Statement.{statement}
 use Rattle.fields.proofs.be_4.Tie as tie
 
-add-join-4 : tie.Need-add-join-4
-add-join-4 c = search needs
+be-2-requires : tie.Need-be-2-requires
+be-2-requires c κs = search needs
 
-shared-slice-read-join-4 : tie.Need-shared-slice-read-join-4
-shared-slice-read-join-4 c = search needs
+cast-result : tie.Need-cast-result
+cast-result c = search needs
 
-add-join-4-2 : tie.Need-add-join-4-2
-add-join-4-2 c = search needs
+mul-result : tie.Need-mul-result
+mul-result c = search needs
 
-shared-slice-read-join-4-2 : tie.Need-shared-slice-read-join-4-2
-shared-slice-read-join-4-2 c = search needs
+add-be-2 : tie.Need-add-be-2
+add-be-2 c = search needs
 
-add-join-4-3 : tie.Need-add-join-4-3
-add-join-4-3 c = search needs
+be-2-requires-2 : tie.Need-be-2-requires-2
+be-2-requires-2 c κs = search needs
 
-shared-slice-read-join-4-3 : tie.Need-shared-slice-read-join-4-3
-shared-slice-read-join-4-3 c = search needs
+cast-result-2 : tie.Need-cast-result-2
+cast-result-2 c = search needs
 
-shared-slice-read-join-4-4 : tie.Need-shared-slice-read-join-4-4
-shared-slice-read-join-4-4 c = search needs
-
-join-4-requires : tie.Need-join-4-requires
-join-4-requires c κs = search needs
+add-result : tie.Need-add-result
+add-result c = search needs
 
 returns : tie.Need-returns
-unfolding leastFirst
-returns c = c .join-4 .ensures ∙ sym (number-run big 4 _ _ (c .before .before .before .before .before .before .pre))
+returns c =
+    let start = c .before .before .before in
+    omega (arith, number-halves big 2 (start .args .«data» .now) (start .args .off) (omega arith), c .before .be-2 .ensures, c .be-22 .ensures)
 
 pub be-4-spec : {M : Type 1} → statement M
-be-4-spec = tie.close (tie.spec add-join-4 shared-slice-read-join-4 add-join-4-2 shared-slice-read-join-4-2 add-join-4-3 shared-slice-read-join-4-3 shared-slice-read-join-4-4 join-4-requires returns)
+be-4-spec = tie.close (tie.spec be-2-requires cast-result mul-result add-be-2 be-2-requires-2 cast-result-2 add-result returns)

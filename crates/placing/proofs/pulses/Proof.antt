@@ -3,7 +3,7 @@ use mathlib.Core.Path.{ap, _∙_}
 use borrow.Author.Needs.{needs}
 use mir.Syntax.{w32}
 use mir.ValLaws.{toZ-ofZ}
-use Rattle.fields.specs.Number.{signed}
+use Rattle.signed_fields.specs.Signed.{signed}
 use Rattle.placing.specs.Placing.{pulses}
 use Rattle.placing.proofs.pulses.Statement.{statement}
 use Rattle.placing.proofs.pulses.Tie as tie

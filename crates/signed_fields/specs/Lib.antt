@@ -1,0 +1,2 @@
+-- What a signed number is.
+pub mod Signed
