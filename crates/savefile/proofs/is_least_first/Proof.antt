@@ -1,7 +1,7 @@
--- `capture::is_least_first` meets its contract: the second magic is tried where the first is not there. Assumes nothing.
+-- `savefile::is_least_first` meets its contract: the second magic is tried where the first is not there. Assumes nothing.
 use borrow.Author.Tests.{eq-eqb, ne-eqb}
-use Rattle.capture.proofs.walk.is_least_first.Statement.{statement}
-use Rattle.capture.proofs.walk.is_least_first.Tie as tie
+use Rattle.savefile.proofs.is_least_first.Statement.{statement}
+use Rattle.savefile.proofs.is_least_first.Tie as tie
 
 returns : tie.Need-returns
 returns c = rw (eq-eqb _ _ (c .if1 .taken))

@@ -1,10 +1,10 @@
--- `capture::u32_at` meets its contract. The bytes lie inside, so the reader answers a value (`opened`), and never that it is missing. Assumes nothing.
+-- `savefile::u32_at` meets its contract. The bytes lie inside, so the reader answers a value (`opened`), and never that it is missing. Assumes nothing.
 use Rattle.fields.specs.declared.U32.the-variants.{Value, Missing}
 use Rattle.fields.proofs.Opened.{opened, is-value, never-missing, in-u32}
-use Rattle.capture.specs.Savefile.{orderOf}
+use Rattle.savefile.specs.Savefile.{orderOf}
 use borrow.Author.Needs.{needs}
-use Rattle.capture.proofs.walk.u32_at.Statement.{statement}
-use Rattle.capture.proofs.walk.u32_at.Tie as tie
+use Rattle.savefile.proofs.u32_at.Statement.{statement}
+use Rattle.savefile.proofs.u32_at.Tie as tie
 
 read-u32-requires : tie.Need-read-u32-requires
 read-u32-requires c κs = search needs

@@ -1,11 +1,11 @@
--- `capture::captured_at` meets its contract. Taking off the length what is known to fit asks the same as the sum of the definition. Assumes nothing.
+-- `savefile::captured_at` meets its contract. Taking off the length what is known to fit asks the same as the sum of the definition. Assumes nothing.
 use native.Mathlib.Omega.{arith}
 use mathlib.Core.Path.{ap, _∙_}
 use borrow.Author.Needs.{needs}
-use Rattle.capture.specs.declared.walk.Captured.the-variants.{Bytes}
-use Rattle.capture.proofs.Records.{past-end, all-there}
-use Rattle.capture.proofs.walk.captured_at.Statement.{statement}
-use Rattle.capture.proofs.walk.captured_at.Tie as tie
+use Rattle.savefile.specs.declared.Captured.the-variants.{Bytes}
+use Rattle.savefile.proofs.Records.{past-end, all-there}
+use Rattle.savefile.proofs.captured_at.Statement.{statement}
+use Rattle.savefile.proofs.captured_at.Tie as tie
 
 returns : tie.Need-returns
 returns c = past-end _ _ _ (omega arith)

@@ -8,7 +8,6 @@ use Rattle.fields.specs.Number.{ByteOrder, little, big, unsignedAt}
 use Rattle.points.specs.ReadInto.{Check, tooLong}
 use Rattle.record_rule.specs.declared.reading.Reading.{Reading}
 use Rattle.record_rule.specs.declared.reading.Reading.the-variants.{Rust, Savefile}
-pub use Rattle.record_rule.specs.Reading.{usual}
 
 -- The magic's four bytes as they stand in the file, for microseconds and for nanoseconds.
 -- d4 c3 b2 a1 and 4d 3c b2 a1

@@ -1,7 +1,7 @@
--- `capture::is_magic` meets its contract. Assumes nothing.
+-- `savefile::is_magic` meets its contract. Assumes nothing.
 use borrow.Author.Needs.{needs}
-use Rattle.capture.proofs.walk.is_magic.Statement.{statement}
-use Rattle.capture.proofs.walk.is_magic.Tie as tie
+use Rattle.savefile.proofs.is_magic.Statement.{statement}
+use Rattle.savefile.proofs.is_magic.Tie as tie
 
 is-least-first-requires : tie.Need-is-least-first-requires
 is-least-first-requires c κs = search needs

@@ -1,7 +1,7 @@
--- `capture::read_u32` meets its contract: each branch is one byte order. Assumes nothing.
+-- `savefile::read_u32` meets its contract: each branch is one byte order. Assumes nothing.
 use borrow.Author.Needs.{needs}
-use Rattle.capture.proofs.walk.read_u32.Statement.{statement}
-use Rattle.capture.proofs.walk.read_u32.Tie as tie
+use Rattle.savefile.proofs.read_u32.Statement.{statement}
+use Rattle.savefile.proofs.read_u32.Tie as tie
 
 read-u32-be-requires : tie.Need-read-u32-be-requires
 read-u32-be-requires c κs = search needs
