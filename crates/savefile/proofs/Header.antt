@@ -3,24 +3,29 @@ use Prim.Native.Nat.{ℕ, _≤_, _<_}
 use mathlib.Core.Path.{_≡_}
 use mathlib.Core.Bool.{true, false, _||_}
 use mathlib.Core.List.{List, [], _∷_}
-use lib.Dec.{eqb}
+use mathlib.Core.Logic.{_⊎_, inl, inr, ⊎-elim}
 use lib.ListN.{length}
-use borrow.Author.Tests.{lt-ltb, le-ltb}
+use borrow.Author.Tests.{lt-ltb, le-ltb, ne-eqb}
 use Rattle.fields.specs.Number.{big, unsignedAt}
 use Rattle.points.specs.ReadInto.{firstRefusal}
 use Rattle.record_rule.specs.declared.reading.Reading.{Reading}
-use Rattle.savefile.specs.Savefile.{leastFirstMagic, mostFirstMagic, bigEndian, fileChecks, checks}
+use Rattle.savefile.specs.Savefile.{leastFirstMagic, mostFirstMagic, bigEndianBy, bigEndian, fileChecks, checks}
 use Rattle.savefile.specs.Headers.{fileHeader}
 
--- the magic that code has read
+-- the magic that code has read, by the arm that it falls under; an arm tells its numbers from the least up
 module _ (bytes : List ℕ) (magic : ℕ) (e : magic ≡ unsignedAt big 4 bytes 0) where
-  pub least-first-is : (eqb magic 0xd4c3b2a1 || eqb magic 0x4d3cb2a1) ≡ leastFirstMagic bytes
+  pub least-first : (magic ≡ 0x4d3cb2a1) ⊎ (magic ≡ 0xd4c3b2a1) → leastFirstMagic bytes ≡ true
   unfolding leastFirstMagic
-  least-first-is = rw e
+  least-first = ⊎-elim (λ m. rw (← e, m)) (λ m. rw (← e, m))
 
-  pub magic-is : (eqb magic 0xd4c3b2a1 || eqb magic 0x4d3cb2a1 || (eqb magic 0xa1b2c3d4 || eqb magic 0xa1b23c4d)) ≡ (leastFirstMagic bytes || mostFirstMagic bytes)
+  pub most-first : (magic ≡ 0xa1b23c4d) ⊎ (magic ≡ 0xa1b2c3d4) → (leastFirstMagic bytes ≡ false) × (mostFirstMagic bytes ≡ true)
   unfolding leastFirstMagic mostFirstMagic
-  magic-is = rw e
+  most-first = ⊎-elim (λ m. (rw (← e, m), rw (← e, m))) (λ m. (rw (← e, m), rw (← e, m)))
+
+  pub neither : ((magic ≡ 0x4d3cb2a1) ⊎ (magic ≡ 0xd4c3b2a1) → ⊥) → ((magic ≡ 0xa1b23c4d) ⊎ (magic ≡ 0xa1b2c3d4) → ⊥) → (leastFirstMagic bytes || mostFirstMagic bytes) ≡ false
+  unfolding leastFirstMagic mostFirstMagic
+  neither l m =
+      rw (← e, ne-eqb magic 0xd4c3b2a1 (λ x. l (inr x)), ne-eqb magic 0x4d3cb2a1 (λ x. l (inl x)), ne-eqb magic 0xa1b2c3d4 (λ x. m (inr x)), ne-eqb magic 0xa1b23c4d (λ x. m (inl x)))
 
 module _ (reading : Reading) (bytes : List ℕ) where
   pub too-long : 2147483647 < length bytes → (1, []) ≡ fileHeader reading bytes
@@ -37,6 +42,10 @@ module _ (reading : Reading) (bytes : List ℕ) where
       unfolding fileHeader firstRefusal checks fileChecks
       wrong-mark h = rw (le-ltb 2147483647 (length bytes) a, le-ltb (length bytes) 24 b, h)
 
-      pub accepted : (leastFirstMagic bytes || mostFirstMagic bytes) ≡ true → (0, bigEndian reading bytes ∷ []) ≡ fileHeader reading bytes
-      unfolding fileHeader firstRefusal checks fileChecks
-      accepted h = rw (le-ltb 2147483647 (length bytes) a, le-ltb (length bytes) 24 b, h)
+      pub accepted-least : leastFirstMagic bytes ≡ true → (0, bigEndianBy reading true ∷ []) ≡ fileHeader reading bytes
+      unfolding fileHeader firstRefusal checks fileChecks bigEndian
+      accepted-least h = rw (le-ltb 2147483647 (length bytes) a, le-ltb (length bytes) 24 b, h)
+
+      pub accepted-most : (leastFirstMagic bytes ≡ false) × (mostFirstMagic bytes ≡ true) → (0, bigEndianBy reading false ∷ []) ≡ fileHeader reading bytes
+      unfolding fileHeader firstRefusal checks fileChecks bigEndian
+      accepted-most h = rw (le-ltb 2147483647 (length bytes) a, le-ltb (length bytes) 24 b, h .0, h .1)

@@ -4,9 +4,7 @@ use fields::U32;
 use points::Refusal;
 use record_rule::Reading;
 ghost use mathlib.Core.Path.{_≡_};
-ghost use mathlib.Core.Bool.{_||_};
 ghost use Prim.Native.Nat.{_+_, _≤_};
-ghost use lib.Dec.{eqb};
 ghost use lib.ListN.{length};
 ghost use Rattle.fields.specs.Number.{unsignedAt, field};
 ghost use Rattle.savefile.specs.Savefile.{orderOf, bigEndianBy};
@@ -38,30 +36,12 @@ pub fn file_header(data: &[u8], reading: Reading) -> FileHeader
     if data.len() < FILE_HEADER_LEN {
         return FileHeader::Refused(Refusal::TooShort);
     }
-    let magic = u32_at(data, 0, true);
-    if !is_magic(magic) {
-        return FileHeader::Refused(Refusal::WrongMark);
+    // Microseconds and nanoseconds, the magic's least significant byte first, and then the most.
+    match u32_at(data, 0, true) {
+        0xd4c3_b2a1 | 0x4d3c_b2a1 => FileHeader::BigEndian(is_big_endian(reading, true)),
+        0xa1b2_c3d4 | 0xa1b2_3c4d => FileHeader::BigEndian(is_big_endian(reading, false)),
+        _ => FileHeader::Refused(Refusal::WrongMark),
     }
-    FileHeader::BigEndian(is_big_endian(reading, is_least_first(magic)))
-}
-
-fn is_magic(magic: u32) -> bool
-    ensures { λ r. ⌜ r ≡ (eqb magic 0xd4c3b2a1 || eqb magic 0x4d3cb2a1 || (eqb magic 0xa1b2c3d4 || eqb magic 0xa1b23c4d)) ⌝ }
-{
-    is_least_first(magic) || is_most_first(magic)
-}
-
-// Microseconds and nanoseconds.
-fn is_least_first(magic: u32) -> bool
-    ensures { λ r. ⌜ r ≡ (eqb magic 0xd4c3b2a1 || eqb magic 0x4d3cb2a1) ⌝ }
-{
-    magic == 0xd4c3_b2a1 || magic == 0x4d3c_b2a1
-}
-
-fn is_most_first(magic: u32) -> bool
-    ensures { λ r. ⌜ r ≡ (eqb magic 0xa1b2c3d4 || eqb magic 0xa1b23c4d) ⌝ }
-{
-    magic == 0xa1b2_c3d4 || magic == 0xa1b2_3c4d
 }
 
 fn is_big_endian(reading: Reading, least_first: bool) -> bool
