@@ -7,7 +7,7 @@ use Rattle.points.specs.ReadInto.{firstRefusal}
 use Rattle.record_rule.specs.declared.reading.Reading.{Reading}
 use Rattle.capture.specs.declared.walk.Cursor.{Cursor}
 use Rattle.capture.specs.declared.walk.Step.{Step}
-use Rattle.capture.specs.Savefile.{checks}
+use Rattle.savefile.specs.Savefile.{checks}
 use Rattle.capture.specs.Payloads.{opening, stepOf}
 use Rattle.capture.proofs.Opening.{walks, refuses}
 use Rattle.c_capture.specs.Capture.{noNext, tellStep, movedTo, tellNext}

@@ -15,7 +15,7 @@ use Rattle.capture.specs.declared.walk.Cursor.{Cursor}
 use Rattle.capture.specs.declared.walk.Place.{Place}
 use Rattle.capture.specs.declared.walk.Step.{Step}
 use Rattle.capture.specs.declared.walk.Step.the-variants.{Payload, End}
-use Rattle.capture.specs.Savefile.{checks}
+use Rattle.savefile.specs.Savefile.{checks}
 use Rattle.capture.specs.Payloads.{placesFrom, payloads, startCursor, stepOf}
 use Rattle.capture.proofs.Steps.{step-end, step-payload, step-on}
 use Rattle.c_capture.specs.Capture.{nextTold, tellStep, movedTo, tellNext}

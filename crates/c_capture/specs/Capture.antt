@@ -8,7 +8,7 @@ use Rattle.record_rule.specs.declared.reading.Reading.{Reading}
 use Rattle.capture.specs.declared.walk.Cursor.{Cursor}
 use Rattle.capture.specs.declared.walk.Step.{Step}
 use Rattle.capture.specs.declared.walk.Step.the-variants.{Payload, End}
-use Rattle.capture.specs.Savefile.{checks}
+use Rattle.savefile.specs.Savefile.{checks}
 use Rattle.capture.specs.Payloads.{placeOf, startCursor, stepOf}
 
 -- The number of the capture's checks, and the start and the length of the payload of a rank: 0 and 0 where there is none.

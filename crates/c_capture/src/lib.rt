@@ -7,7 +7,8 @@ use capture::Reading;
 use capture::Step;
 ghost use mathlib.Core.Path.{_≡_};
 ghost use Rattle.points.specs.ReadInto.{firstRefusal};
-ghost use Rattle.capture.specs.Savefile.{usual, checks};
+ghost use Rattle.record_rule.specs.Reading.{usual};
+ghost use Rattle.savefile.specs.Savefile.{checks};
 ghost use Rattle.c_form.specs.Reading.{readingOf};
 ghost use Rattle.c_capture.specs.Capture.{movedTo, placeTold, tellPlace, nextTold, tellNext};
 

@@ -5,7 +5,7 @@ use c_form::tell;
 use ouster::OusterSettings;
 ghost use mathlib.Core.Path.{_≡_};
 ghost use Rattle.points.specs.ReadInto.{outcome};
-ghost use Rattle.capture.specs.Savefile.{usual};
+ghost use Rattle.record_rule.specs.Reading.{usual};
 ghost use Rattle.ouster.specs.Ouster.{readOuster};
 ghost use Rattle.ouster_settings.specs.Settings.{os1-64, os-128, os1-64-elevations, os-128-elevations};
 ghost use Rattle.c_form.specs.Reading.{readingOf};

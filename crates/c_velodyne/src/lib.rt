@@ -10,7 +10,7 @@ use velodyne::read_velodyne_as;
 ghost use mathlib.Core.Path.{_≡_};
 ghost use mathlib.Core.List.{[], _∷_};
 ghost use Rattle.points.specs.ReadInto.{outcome, tooLong, readInto};
-ghost use Rattle.capture.specs.Savefile.{usual};
+ghost use Rattle.record_rule.specs.Reading.{usual};
 ghost use Rattle.velodyne_angles.specs.Model.{modelOf};
 ghost use Rattle.velodyne_packet.specs.Packet.{packetPoints};
 ghost use Rattle.velodyne.specs.Velodyne.{readVelodyne};

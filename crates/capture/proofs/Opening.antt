@@ -1,49 +1,31 @@
--- Opening a capture, case by case: its three checks in their order, then the cursor. Assumes nothing.
-use Prim.Native.Nat.{ℕ, _≤_, _<_}
+-- Opening a capture by the file header's answer, and what an answer says of the checks. Assumes nothing.
+use Prim.Native.Nat.{ℕ}
 use native.Mathlib.Omega.{arith}
-use mathlib.Core.Path.{_≡_, sym, ap, _∙_}
-use mathlib.Core.Bool.{true, false, not, _||_}
-use mathlib.Core.List.{List, [], _∷_}
+use mathlib.Core.Path.{_≡_, refl, sym, ap, _∙_}
+use mathlib.Core.Bool.{Bool, true, false, cond}
+use mathlib.Core.List.{List, [], _∷_, map}
 use lib.Dec.{eqb}
-use lib.ListN.{length}
-use borrow.Author.Tests.{lt-ltb, le-ltb}
-use Rattle.fields.specs.Number.{big, unsignedAt}
 use Rattle.points.specs.ReadInto.{firstRefusal}
 use Rattle.record_rule.specs.declared.reading.Reading.{Reading}
+use Rattle.savefile.specs.Savefile.{bigEndian, checks}
+use Rattle.savefile.specs.Headers.{fileHeader}
 use Rattle.capture.specs.declared.walk.Cursor.{Cursor}
-use Rattle.capture.specs.Savefile.{leastFirstMagic, mostFirstMagic, fileChecks, checks}
 use Rattle.capture.specs.Payloads.{opening, startCursor}
 
--- the magic that code has read
-module _ (bytes : List ℕ) (magic : ℕ) (e : magic ≡ unsignedAt big 4 bytes 0) where
-  pub least-first-is : (eqb magic 0xd4c3b2a1 || eqb magic 0x4d3cb2a1) ≡ leastFirstMagic bytes
-  unfolding leastFirstMagic
-  least-first-is = rw e
-
-  pub magic-is : (eqb magic 0xd4c3b2a1 || eqb magic 0x4d3cb2a1 || (eqb magic 0xa1b2c3d4 || eqb magic 0xa1b23c4d)) ≡ (leastFirstMagic bytes || mostFirstMagic bytes)
-  unfolding leastFirstMagic mostFirstMagic
-  magic-is = rw e
-
 module _ (reading : Reading) (port : ℕ) (bytes : List ℕ) where
-  pub too-long : 2147483647 < length bytes → (1, []) ≡ opening reading port bytes
-  unfolding opening firstRefusal checks fileChecks
-  too-long h = rw (lt-ltb 2147483647 (length bytes) h)
+  -- The file header's answer, with a cursor for the byte order.
+  abbrev withCursor : ℕ × List Bool → ℕ × List Cursor
+  withCursor told = (told .0, map (λ (big : Bool). record { at = 24; port = port; reading = reading; «big_endian» = big }) (told .1))
 
-  module _ (a : length bytes ≤ 2147483647) where
-    pub too-short : length bytes < 24 → (3, []) ≡ opening reading port bytes
-    unfolding opening firstRefusal checks fileChecks
-    too-short h = rw (le-ltb 2147483647 (length bytes) a, lt-ltb (length bytes) 24 h)
+  pub by-header : (told : ℕ × List Bool) → told ≡ fileHeader reading bytes → withCursor told ≡ opening reading port bytes
+  unfolding opening fileHeader
+  by-header told e = ap withCursor e ∙ either (eqb (firstRefusal (checks reading bytes)) 0)
+    where
+      either : (b : Bool) → let n = firstRefusal (checks reading bytes) in withCursor (n, cond b (bigEndian reading bytes ∷ []) []) ≡ (n, cond b (startCursor reading port bytes ∷ []) [])
+      either true = refl
+      either false = refl
 
-    module _ (b : 24 ≤ length bytes) where
-      pub wrong-mark : (leastFirstMagic bytes || mostFirstMagic bytes) ≡ false → (4, []) ≡ opening reading port bytes
-      unfolding opening firstRefusal checks fileChecks
-      wrong-mark h = rw (le-ltb 2147483647 (length bytes) a, le-ltb (length bytes) 24 b, h)
-
-      pub opened : (leastFirstMagic bytes || mostFirstMagic bytes) ≡ true → (0, startCursor reading port bytes ∷ []) ≡ opening reading port bytes
-      unfolding opening firstRefusal checks fileChecks
-      opened h = rw (le-ltb 2147483647 (length bytes) a, le-ltb (length bytes) 24 b, h)
-
-  -- and back: what an answer says of the checks
+  -- What an answer says of the checks.
   pub walks : (cursor : Cursor) → (0, cursor ∷ []) ≡ opening reading port bytes → (firstRefusal (checks reading bytes) ≡ 0) × (cursor ≡ startCursor reading port bytes)
   unfolding opening
   walks cursor e =

@@ -20,9 +20,9 @@ use Rattle.capture.specs.declared.walk.Cursor.{Cursor}
 use Rattle.capture.specs.declared.walk.Place.{Place}
 use Rattle.capture.specs.declared.walk.Step.the-variants.{Payload, End}
 use Rattle.record_rule.specs.Record.{verdict, startOf}
-use Rattle.capture.specs.Savefile.{RecordAt, capturedAt, recordsFrom, orderOf, bigEndian, checks}
+use Rattle.savefile.specs.Savefile.{RecordAt, capturedAt, recordsFrom, orderOf, bigEndian, checks}
 use Rattle.capture.specs.Payloads.{Found, recordBytes, recordEnd, ofStart, foundIn, foundFrom, placesFrom, payloads, nowhere, placeOf, bytesAt, stepTo, stepOf}
-use Rattle.capture.proofs.Records.{past, enough}
+use Rattle.savefile.proofs.Records.{past, enough}
 use Rattle.record_rule.proofs.Tests.{start-inside}
 
 module _ (reading : Reading) (big : Bool) (port : ℕ) (bytes : List ℕ) where

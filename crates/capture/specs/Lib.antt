@@ -1,4 +1,3 @@
--- What a capture means: the savefile's records, and the payloads in order.
+-- What a capture means: the payloads in order.
 pub mod Joined
 pub mod Payloads
-pub mod Savefile

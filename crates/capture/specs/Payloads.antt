@@ -3,15 +3,13 @@ use Prim.Native.Nat.{ℕ, zero, suc, _+_, _-_}
 use mathlib.Core.Path.{_≡_}
 use mathlib.Core.Bool.{Bool, true, false, cond}
 use mathlib.Core.List.{List, [], _∷_, flatMap, map}
-use lib.Dec.{leb, eqb}
+use lib.Dec.{eqb}
 use lib.ListN.{length, take, drop, getD}
 use Rattle.answers.specs.Answer.{refusalNumber}
 use Rattle.points.specs.ReadInto.{firstRefusal}
 use Rattle.record_rule.specs.declared.reading.Reading.{Reading}
 use Rattle.record_rule.specs.declared.rule.Start.{Start}
 use Rattle.record_rule.specs.declared.rule.Start.the-variants.{At, Nothing}
-use Rattle.capture.specs.declared.walk.Captured.{Captured}
-use Rattle.capture.specs.declared.walk.Captured.the-variants.{Bytes, PastEnd}
 use Rattle.capture.specs.declared.walk.Cursor.{Cursor}
 use Rattle.capture.specs.declared.walk.Opened.{Opened}
 use Rattle.capture.specs.declared.walk.Opened.the-variants as Openings
@@ -19,7 +17,7 @@ use Rattle.capture.specs.declared.walk.Place.{Place}
 use Rattle.capture.specs.declared.walk.Step.{Step}
 use Rattle.capture.specs.declared.walk.Step.the-variants as Steps
 use Rattle.record_rule.specs.Record.{verdict, startOf}
-use Rattle.capture.specs.Savefile.{RecordAt, capturedAt, recordsFrom, bigEndian, orderOf, checks}
+use Rattle.savefile.specs.Savefile.{RecordAt, recordsFrom, bigEndian, orderOf, checks}
 
 -- The bytes that a record captured.
 abbrev pub recordBytes : List ℕ → RecordAt → List ℕ
@@ -90,12 +88,6 @@ opening reading port bytes =
 abbrev pub openedAs : Opened → ℕ × List Cursor
 openedAs (Openings.Walk cursor) = (0, cursor ∷ [])
 openedAs (Openings.Refused refusal) = (refusalNumber refusal, [])
-
--- How many bytes the record at a place captured, where all of them are there.
-unfoldable pub capturedOf : Bool → List ℕ → ℕ → Captured
-capturedOf big bytes at =
-    let captured = capturedAt (orderOf big) bytes at in
-    cond (leb (at + 16 + captured) (length bytes)) (Bytes captured) PastEnd
 
 -- A step gives the first payload from the cursor on, and the cursor behind its record.
 abbrev pub stepTo : Cursor → List Found → Step

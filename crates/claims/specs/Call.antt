@@ -14,7 +14,7 @@ use Rattle.record_rule.specs.Ethernet.{etherType, ipStart}
 use Rattle.record_rule.specs.Ipv4.{version, ihl, protocol, udpStart}
 use Rattle.record_rule.specs.Udp.{destinationPort, payloadStart}
 use Rattle.record_rule.specs.Record.{verdict}
-use Rattle.capture.specs.Savefile
+use Rattle.savefile.specs.Savefile
 use Rattle.capture.specs.Payloads
 use Rattle.capture.specs.Payloads.{opening, placesFrom, bytesAt}
 use Rattle.capture.specs.Joined.{noPayload, pointsIn}

@@ -8,7 +8,7 @@ use capture::Step;
 ghost use mathlib.Core.Path.{_≡_};
 ghost use Prim.Native.Nat.{_+_};
 ghost use lib.ListN.{getD};
-ghost use Rattle.capture.specs.Savefile.{usual};
+ghost use Rattle.record_rule.specs.Reading.{usual};
 ghost use Rattle.capture.specs.Payloads.{placesFrom, placeOf, bytesAt, PartAt, nowhere};
 
 // The payload of a rank, counted from 0, as that part of the capture: empty where there is none.

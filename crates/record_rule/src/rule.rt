@@ -37,15 +37,8 @@ impl Verdict {
         ensures { λ r. ⌜ r ≡ startOf self ⌝ }
     {
         match self {
-            Verdict::TooShort => Start::Nothing,
-            Verdict::NotIpv4 => Start::Nothing,
-            Verdict::WrongVersion => Start::Nothing,
-            Verdict::NotUdp => Start::Nothing,
-            Verdict::ShortIpHeader => Start::Nothing,
-            Verdict::UdpPastEnd => Start::Nothing,
-            Verdict::OtherPort => Start::Nothing,
-            Verdict::NothingFollows => Start::Nothing,
             Verdict::Payload(from) => Start::At(from),
+            _ => Start::Nothing,
         }
     }
 }

@@ -6,4 +6,4 @@ pub use read::read_velodyne;
 pub use read::read_velodyne_as;
 pub use velodyne_angles::VelodyneModel;
 pub use velodyne_angles::detect_velodyne_model;
-pub use velodyne_packet::decode_velodyne_packet;
+pub use velodyne_decode::decode_velodyne_packet;

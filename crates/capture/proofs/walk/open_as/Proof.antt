@@ -1,53 +1,27 @@
--- `capture::open_as` meets its contract: each way out is a case of the table of checks. Assumes nothing.
-use mathlib.Core.Path.{_≡_, sym, ap, _∙_}
-use mathlib.Core.Bool.{_||_}
-use borrow.Author.Tests.{not-true, not-false}
-use Rattle.capture.specs.Savefile.{leastFirstMagic, mostFirstMagic, bigEndianBy, bigEndian}
-use Rattle.capture.proofs.Opening.{least-first-is, magic-is, too-long, too-short, wrong-mark, opened}
+-- `capture::open_as` meets its contract: it opens by the file header's answer (`by-header`). Assumes nothing.
+use mathlib.Core.Path.{sym, ap, _∙_}
+use Rattle.savefile.specs.Headers.{fileHeaderAs}
+use Rattle.capture.proofs.Opening.{by-header}
 use borrow.Author.Needs.{needs}
 use Rattle.capture.proofs.walk.open_as.Statement.{statement}
 use Rattle.capture.proofs.walk.open_as.Tie as tie
 
-magic : (c : tie.After-is-magic) → (leastFirstMagic (c .before .before .before .before .before .args .«data» .now) || mostFirstMagic (c .before .before .before .before .before .args .«data» .now)) ≡ c .is-magic .result
-magic c = sym (c .is-magic .ensures ∙ magic-is _ _ (c .before .u32-at .ensures))
+file-header-requires : tie.Need-file-header-requires
+file-header-requires c κs = search needs
 
-big : (c : tie.After-is-big-endian) → c .is-big-endian .result ≡ bigEndian (c .before .before .before .before .before .before .before .before .args .reading) (c .before .before .before .before .before .before .before .before .args .«data» .now)
-unfolding bigEndian
-big c = c .is-big-endian .ensures ∙ ap (bigEndianBy (c .before .before .before .before .before .before .before .before .args .reading)) (c .before .is-least-first .ensures ∙ least-first-is _ _ (c .before .before .before .before .u32-at .ensures))
+enum-known-big-endian : tie.Need-enum-known-big-endian
+enum-known-big-endian c = search needs
+
+enum-known-refusal : tie.Need-enum-known-refusal
+enum-known-refusal c = search needs
 
 returns : tie.Need-returns
-returns c = too-long _ _ _ (c .if1 .taken)
+returns c = by-header _ _ _ _ (sym (ap fileHeaderAs (c .before .big-endian .given .1)) ∙ c .before .before .before .file-header .ensures)
 
 returns-2 : tie.Need-returns-2
-returns-2 c = too-short _ _ _ (c .before .if1 .left) (c .if2 .taken)
-
-u32-at-requires : tie.Need-u32-at-requires
-u32-at-requires c κs = search needs
-
-is-magic-requires : tie.Need-is-magic-requires
-is-magic-requires c κs = search needs
-
-returns-3 : tie.Need-returns-3
-returns-3 c = wrong-mark _ _ _ (c .before .before .before .before .if1 .left) (c .before .before .before .if2 .left) (magic (c .before) ∙ not-true _ (c .if3 .taken))
-
-is-least-first-requires : tie.Need-is-least-first-requires
-is-least-first-requires c κs = search needs
-
-is-big-endian-requires : tie.Need-is-big-endian-requires
-is-big-endian-requires c κs = search needs
-
-returns-4 : tie.Need-returns-4
-returns-4 c = rw (big c) (opened _ _ _ (c .before .before .before .before .before .before .if1 .left) (c .before .before .before .before .before .if2 .left) (magic (c .before .before .before) ∙ not-false _ (c .before .before .if3 .left)))
+returns-2 c = by-header _ _ _ _ (sym (ap fileHeaderAs (c .before .refusal .given .1)) ∙ c .before .before .before .file-header .ensures)
 
 pub open-as-spec : {M : Type 1} → statement M
 open-as-spec =
     tie.close
-    (tie.spec
-    returns
-    returns-2
-    u32-at-requires
-    is-magic-requires
-    returns-3
-    is-least-first-requires
-    is-big-endian-requires
-    returns-4)
+    (tie.spec file-header-requires enum-known-big-endian enum-known-refusal returns returns-2)

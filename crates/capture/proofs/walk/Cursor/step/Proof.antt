@@ -7,9 +7,10 @@ use mathlib.Core.List.{List, []}
 use lib.ListN.{length, take, drop}
 use borrow.Author.Needs.{needs}
 use Rattle.record_rule.specs.Record.{startOf, verdict}
-use Rattle.capture.specs.Savefile.{capturedAt, orderOf}
+use Rattle.savefile.specs.Savefile.{capturedAt, orderOf}
 use Rattle.capture.specs.Payloads.{Found, foundFrom, stepTo, stepOf}
-use Rattle.capture.proofs.Records.{is-past, is-there, at-end, lent-long, passed-over, handed-over}
+use Rattle.savefile.proofs.Records.{is-past, is-there}
+use Rattle.capture.proofs.Records.{at-end, lent-long, passed-over, handed-over}
 use Rattle.record_rule.proofs.Tests.{start-inside}
 use Rattle.capture.proofs.walk.Cursor.step.Statement.{statement}
 use Rattle.capture.proofs.walk.Cursor.step.Tie as tie

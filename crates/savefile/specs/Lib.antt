@@ -1,0 +1,3 @@
+-- What the headers of a savefile mean.
+pub mod Headers
+pub mod Savefile

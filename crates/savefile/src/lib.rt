@@ -1,0 +1,91 @@
+// The headers of a libpcap savefile, in two readings: the file's, and a record's.
+
+use fields::U32;
+use points::Refusal;
+use record_rule::Reading;
+ghost use mathlib.Core.Path.{_≡_};
+ghost use Prim.Native.Nat.{_+_, _≤_};
+ghost use lib.ListN.{length};
+ghost use Rattle.fields.specs.Number.{unsignedAt, field};
+ghost use Rattle.savefile.specs.Savefile.{orderOf, bigEndianBy};
+ghost use Rattle.savefile.specs.Headers.{fileHeader, fileHeaderAs, capturedOf};
+
+// What the file header tells: whether the records' lengths are big-endian, or why the file is
+// refused.
+pub enum FileHeader {
+    BigEndian(bool),
+    Refused(Refusal),
+}
+
+// How many bytes the record at a place captured, where all of them are there.
+pub enum Captured {
+    Bytes(usize),
+    PastEnd,
+}
+
+pub const FILE_HEADER_LEN: usize = 24;
+
+pub const RECORD_HEADER_LEN: usize = 16;
+
+pub fn file_header(data: &[u8], reading: Reading) -> FileHeader
+    ensures { λ r. ⌜ fileHeaderAs r ≡ fileHeader reading (now («data» .entry)) ⌝ }
+{
+    if points::MAX_DATA_LEN < data.len() {
+        return FileHeader::Refused(Refusal::TooLong);
+    }
+    if data.len() < FILE_HEADER_LEN {
+        return FileHeader::Refused(Refusal::TooShort);
+    }
+    // Microseconds and nanoseconds, the magic's least significant byte first, and then the most.
+    match u32_at(data, 0, true) {
+        0xd4c3_b2a1 | 0x4d3c_b2a1 => FileHeader::BigEndian(is_big_endian(reading, true)),
+        0xa1b2_c3d4 | 0xa1b2_3c4d => FileHeader::BigEndian(is_big_endian(reading, false)),
+        _ => FileHeader::Refused(Refusal::WrongMark),
+    }
+}
+
+fn is_big_endian(reading: Reading, least_first: bool) -> bool
+    ensures { λ r. ⌜ r ≡ bigEndianBy reading «least_first» ⌝ }
+{
+    match reading {
+        Reading::Rust => least_first,
+        Reading::Savefile => !least_first,
+    }
+}
+
+pub fn captured_at(data: &[u8], at: usize, big_endian: bool) -> Captured
+    ensures { λ r. ⌜ r ≡ capturedOf «big_endian» (now («data» .entry)) at ⌝ }
+{
+    if data.len() < RECORD_HEADER_LEN {
+        return Captured::PastEnd;
+    }
+    if data.len() - RECORD_HEADER_LEN < at {
+        return Captured::PastEnd;
+    }
+    let captured = u32_at(data, at + 8, big_endian) as usize;
+    if data.len() - RECORD_HEADER_LEN - at < captured {
+        return Captured::PastEnd;
+    }
+    Captured::Bytes(captured)
+}
+
+// The header was tested, so that the number is not missing.
+fn u32_at(data: &[u8], off: usize, big_endian: bool) -> u32
+    requires { ⌜ off + 4 ≤ length (now «data») ⌝ }
+    ensures { λ r. ⌜ r ≡ unsignedAt (orderOf «big_endian») 4 (now («data» .entry)) off ⌝ }
+{
+    let U32::Value(n) = read_u32(data, off, big_endian) else {
+        return 0;
+    };
+    n
+}
+
+fn read_u32(data: &[u8], off: usize, big_endian: bool) -> U32
+    ensures { λ r. ⌜ r ≡ field U32.Value U32.Missing (orderOf «big_endian») 4 (now («data» .entry)) off ⌝ }
+{
+    if big_endian {
+        fields::read_u32_be(data, off)
+    } else {
+        fields::read_u32_le(data, off)
+    }
+}
