@@ -1,9 +1,9 @@
--- `listing::head_line` meets its contract: each call puts the next part of the definition behind the last. Assumes nothing.
-use Rattle.listing.proofs.Lines.{first, then, counted}
+-- `head_lines::head_line` meets its contract: each call puts the next part of the definition behind the last. Assumes nothing.
+use Rattle.head_lines.proofs.Lines.{first, then, counted}
 use borrow.Author.Needs.{needs}
-use Rattle.listing.specs.Listing.{headLine}
-use Rattle.listing.proofs.head_line.Statement.{statement}
-use Rattle.listing.proofs.head_line.Tie as tie
+use Rattle.head_lines.specs.HeadLines.{headLine}
+use Rattle.head_lines.proofs.head_line.Statement.{statement}
+use Rattle.head_lines.proofs.head_line.Tie as tie
 
 slice-aggregate-append : tie.Need-slice-aggregate-append
 slice-aggregate-append c = search needs

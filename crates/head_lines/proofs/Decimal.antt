@@ -9,7 +9,7 @@ use mathlib.Core.List.{[], _∷_, _++_}
 use lib.Dec.{ltb}
 use borrow.Author.Tests.{ltb-false, lt-ltb, le-ltb}
 use Rattle.io.specs.Digits.{digits, Fewest}
-use Rattle.listing.specs.Listing.{glyph, decimalIn, decimal}
+use Rattle.head_lines.specs.HeadLines.{glyph, decimalIn, decimal}
 
 -- more steps change nothing
 pub steps-enough : (s t n : ℕ) → n < s → n < t → decimalIn s n ≡ decimalIn t n
@@ -22,12 +22,12 @@ steps-enough (suc s) (suc t) n h g = by-test (ltb n 10) refl (λ l. steps-enough
 fewest-in : (k steps n : ℕ) → n < steps → Fewest 10 1 n k → digits 10 k n ≡ decimalIn steps n
 unfolding decimalIn
 fewest-in zero steps n h (l, m, g) = absurd (omega arith)
-fewest-in (suc zero) (suc steps) n h (l, m, g) = rw (lt-ltb n 10 m)
+fewest-in (suc zero) (suc steps) n h (l, m, g) = rw (lt-ltb n 10 m, lt-ltb (n % 10) 10 (omega arith))
 fewest-in (suc (suc k)) (suc steps) n h (l, m, g) =
     let long : 10 ^ k * 10 ≤ n = simp (unary-clauses, pow-suc) at (g (omega arith)) in
     let short : n < 10 ^ suc k * 10 = rw pow-suc at m in
     let some : 10 ≤ n = omega (arith, one-le-pow k 10 (omega arith)) in
-    rw (le-ltb n 10 some, ← fewest-in (suc k) steps (n / 10) (omega arith) (omega arith, omega arith, λ _. simp unary-clauses (omega arith)))
+    rw (le-ltb n 10 some, lt-ltb (n % 10) 10 (omega arith), ← fewest-in (suc k) steps (n / 10) (omega arith) (omega arith, omega arith, λ _. simp unary-clauses (omega arith)))
 
 -- the fewest digits that hold n are the ones with no zero in front
 pub fewest-is : (k n : ℕ) → Fewest 10 1 n k → digits 10 k n ≡ decimal n

@@ -1,9 +1,9 @@
--- `listing::refusal_line` meets its contract: each call puts the next part of the definition behind the last. Assumes nothing.
+-- `head_lines::refusal_line` meets its contract: each call puts the next part of the definition behind the last. Assumes nothing.
 use mathlib.Core.Path.{sym, _∙_}
-use Rattle.listing.proofs.Lines.{Begun, first, then, counted, refused, no-room-is, other-is}
+use Rattle.head_lines.proofs.Lines.{Begun, first, then, counted, refused, no-room-is, other-is}
 use borrow.Author.Needs.{needs}
-use Rattle.listing.proofs.refusal_line.Statement.{statement}
-use Rattle.listing.proofs.refusal_line.Tie as tie
+use Rattle.head_lines.proofs.refusal_line.Statement.{statement}
+use Rattle.head_lines.proofs.refusal_line.Tie as tie
 
 number-requires : tie.Need-number-requires
 number-requires c κs = search needs

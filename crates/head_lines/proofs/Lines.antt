@@ -4,7 +4,7 @@ use native.Mathlib.Nat.{zero-add}
 use native.Mathlib.Omega.{arith}
 use mathlib.Core.Path.{_≡_, sym, ap, _∙_}
 use mathlib.Core.List.{List, [], _∷_, _++_, append-assoc, append-nil}
-use lib.ListN.{length, take, drop, getD, length-append}
+use lib.ListN.{length, take, drop, length-append}
 use lib.Seq.{take-length, length-take-le}
 use borrow.Author.Tests.{eq-eqb, ne-eqb}
 use borrow.Rule.Slice.PartMut.{midOf, putMid}
@@ -14,21 +14,8 @@ use Rattle.io.specs.Counts.{Counts}
 use Rattle.points.specs.ReadInto.{over}
 use Rattle.points.proofs.Laying.{tail-lent, tail-back}
 use Rattle.points.proofs.Lists.{over-more}
-use Rattle.listing.specs.Appended.{Appended}
-use Rattle.listing.specs.Listing.{letter, decimal, hexDigits, refusedText, space, lineEnd, refusalLine, pointLine}
-
-abbrev spelled : ℕ → List ℕ → List ℕ → List ℕ → List ℕ
-spelled l a b c =
-    l ∷ 32 ∷ getD a 0 0 ∷ getD a 1 0 ∷ getD a 2 0 ∷ getD a 3 0 ∷ getD a 4 0 ∷ getD a 5 0 ∷ getD a 6 0 ∷ getD a 7 0
-    ∷ 32 ∷ getD b 0 0 ∷ getD b 1 0 ∷ getD b 2 0 ∷ getD b 3 0 ∷ getD b 4 0 ∷ getD b 5 0 ∷ getD b 6 0 ∷ getD b 7 0
-    ∷ 32 ∷ getD c 0 0 ∷ getD c 1 0 ∷ getD c 2 0 ∷ getD c 3 0 ∷ getD c 4 0 ∷ getD c 5 0 ∷ getD c 6 0 ∷ getD c 7 0
-    ∷ 10 ∷ []
-
-pub line-is : (kind x y z : ℕ) {l : ℕ} {a b c : List ℕ} → l ≡ letter kind → a ≡ hexDigits x → b ≡ hexDigits y → c ≡ hexDigits z → spelled l a b c ≡ pointLine kind x y z
-unfolding pointLine hexDigits
-line-is kind x y z e f g h = rw (e, f, g, h)
-
--- ---- a line as far as it is put together
+use Rattle.head_lines.specs.Appended.{Appended}
+use Rattle.head_lines.specs.HeadLines.{decimal, refusedText, space, lineEnd, refusalLine}
 
 -- a part of the line that runs to its end, lent to the copy and put back
 pub copied : (text old : List ℕ) (at : ℕ) {new : List ℕ} {n : ℕ} → at ≤ length old → n ≡ length text → new ≡ take (length text) text ++ drop (length text) (midOf at (length old - at) old)

@@ -1,8 +1,8 @@
--- `listing::hex` meets its contract, digit by digit. Assumes nothing.
-use Rattle.listing.specs.Listing.{hexDigits}
+-- `point_lines::hex` meets its contract, digit by digit. Assumes nothing.
+use Rattle.point_lines.specs.PointLine.{hexDigits}
 use borrow.Author.Needs.{needs}
-use Rattle.listing.proofs.hex.Statement.{statement}
-use Rattle.listing.proofs.hex.Tie as tie
+use Rattle.point_lines.proofs.hex.Statement.{statement}
+use Rattle.point_lines.proofs.hex.Tie as tie
 
 digit-requires : tie.Need-digit-requires
 digit-requires c κs = search needs

@@ -1,14 +1,14 @@
--- What the lister prints: a line of what was read or refused, and a line of each point.
-use Prim.Native.Nat.{ℕ, zero, suc, _+_, _/_, _%_, _^_}
+-- What the lister prints first: what was read, or the refusal.
+use Prim.Native.Nat.{ℕ, zero, suc, _+_, _/_, _%_}
 use mathlib.Core.Bool.{cond}
-use mathlib.Core.List.{List, [], _∷_, _++_, map}
+use mathlib.Core.List.{List, [], _∷_, _++_}
 use lib.Dec.{ltb, eqb}
 use Rattle.answers.specs.declared.Refusal.{Refusal}
 use Rattle.answers.specs.Answer.{refusalNumber, refusalPoints}
 
--- The ASCII code of a hexadecimal digit: 0 to 9, then a to f.
+-- The ASCII code of a decimal digit.
 abbrev pub glyph : ℕ → ℕ
-glyph d = cond (ltb d 10) (48 + d) (87 + d)
+glyph d = 48 + d
 
 -- The decimal digits of n, the most significant first, in at most so many steps.
 unfoldable pub decimalIn : ℕ → ℕ → List ℕ
@@ -19,14 +19,6 @@ decimalIn (suc steps) n = cond (ltb n 10) [] (decimalIn steps (n / 10)) ++ glyph
 unfoldable pub decimal : ℕ → List ℕ
 unfolding decimalIn
 decimal n = decimalIn (suc n) n
-
--- Eight hexadecimal digits, the most significant first.
-unfoldable pub hexDigits : ℕ → List ℕ
-hexDigits n = map (λ place. glyph (n / 16 ^ place % 16)) (7 ∷ 6 ∷ 5 ∷ 4 ∷ 3 ∷ 2 ∷ 1 ∷ 0 ∷ [])
-
--- c for a Cartesian point, p for a polar one.
-unfoldable pub letter : ℕ → ℕ
-letter kind = cond (eqb kind 1) 99 112
 
 -- `points `
 abbrev pub pointsText : List ℕ
@@ -53,8 +45,3 @@ headLine points frames = pointsText ++ decimal points ++ framesText ++ decimal f
 -- `refused K`, and for 10 `refused 10 N` with the points needed
 unfoldable pub refusalLine : Refusal → List ℕ
 refusalLine refusal = refusedText ++ decimal (refusalNumber refusal) ++ cond (eqb (refusalNumber refusal) 10) (space ∷ decimal (refusalPoints refusal)) [] ++ lineEnd ∷ []
-
--- The letter of the point's kind and its three numbers, a space before each.
-unfoldable pub pointLine : ℕ → ℕ → ℕ → ℕ → List ℕ
-unfolding letter hexDigits
-pointLine kind x y z = letter kind ∷ space ∷ hexDigits x ++ space ∷ hexDigits y ++ space ∷ hexDigits z ++ lineEnd ∷ []

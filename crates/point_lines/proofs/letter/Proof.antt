@@ -1,8 +1,8 @@
--- `listing::letter` meets its contract. Assumes nothing.
+-- `point_lines::letter` meets its contract. Assumes nothing.
 use borrow.Author.Tests.{eq-eqb, ne-eqb}
-use Rattle.listing.specs.Listing.{letter}
-use Rattle.listing.proofs.letter.Statement.{statement}
-use Rattle.listing.proofs.letter.Tie as tie
+use Rattle.point_lines.specs.PointLine.{letter}
+use Rattle.point_lines.proofs.letter.Statement.{statement}
+use Rattle.point_lines.proofs.letter.Tie as tie
 
 returns : tie.Need-returns
 unfolding letter

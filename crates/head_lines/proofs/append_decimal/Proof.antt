@@ -1,13 +1,13 @@
--- `listing::append_decimal` meets its contract: the digits are the fewest that hold the number, so they are those of the definition. Assumes nothing.
+-- `head_lines::append_decimal` meets its contract: the digits are the fewest that hold the number, so they are those of the definition. Assumes nothing.
 use Prim.Native.Nat.{_≤_}
 use native.Mathlib.Omega.{arith}
 use mathlib.Core.Path.{_≡_, _∙_}
 use lib.ListN.{length, take}
-use Rattle.listing.specs.Listing.{decimal}
-use Rattle.listing.proofs.Decimal.{few, fewest-is}
+use Rattle.head_lines.specs.HeadLines.{decimal}
+use Rattle.head_lines.proofs.Decimal.{few, fewest-is}
 use borrow.Author.Needs.{needs}
-use Rattle.listing.proofs.append_decimal.Statement.{statement}
-use Rattle.listing.proofs.append_decimal.Tie as tie
+use Rattle.head_lines.proofs.append_decimal.Statement.{statement}
+use Rattle.head_lines.proofs.append_decimal.Tie as tie
 
 decimal-requires : tie.Need-decimal-requires
 decimal-requires c κs = search needs

@@ -1,9 +1,9 @@
--- `listing::digit` meets its contract: the test is the definition's. Assumes nothing.
+-- `point_lines::digit` meets its contract: the test is the definition's. Assumes nothing.
 use borrow.Author.Tests.{lt-ltb, le-ltb}
 use Prim.Native.Nat.{_/_, _%_}
 use borrow.Author.Needs.{needs}
-use Rattle.listing.proofs.digit.Statement.{statement}
-use Rattle.listing.proofs.digit.Tie as tie
+use Rattle.point_lines.proofs.digit.Statement.{statement}
+use Rattle.point_lines.proofs.digit.Tie as tie
 
 div-d : tie.Need-div-d
 div-d c = search needs

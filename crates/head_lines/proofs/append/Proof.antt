@@ -1,9 +1,9 @@
--- `listing::append` meets its contract: the part of the line from the index on is lent to the copy. Assumes nothing.
+-- `head_lines::append` meets its contract: the part of the line from the index on is lent to the copy. Assumes nothing.
 use native.Mathlib.Omega.{arith}
-use Rattle.listing.proofs.Lines.{copied}
+use Rattle.head_lines.proofs.Lines.{copied}
 use borrow.Author.Needs.{needs}
-use Rattle.listing.proofs.append.Statement.{statement}
-use Rattle.listing.proofs.append.Tie as tie
+use Rattle.head_lines.proofs.append.Statement.{statement}
+use Rattle.head_lines.proofs.append.Tie as tie
 
 sub-copy : tie.Need-sub-copy
 sub-copy c = search needs
