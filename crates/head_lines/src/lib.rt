@@ -3,6 +3,7 @@
 use answers::Refusal;
 ghost use mathlib.Core.Path.{_≡_};
 ghost use Prim.Native.Nat.{_+_, _≤_};
+ghost use mathlib.Core.List.{_++_};
 ghost use lib.ListN.{length};
 ghost use Rattle.io.specs.Counts.{Counts};
 ghost use Rattle.points.specs.ReadInto.{over};
@@ -16,10 +17,8 @@ pub fn head_line(points: usize, frames: usize, line: &mut [u8; 64]) -> usize
     ensures { λ r. ⌜ r ≡ length (headLine points frames) ⌝ }
     ensures { λ _. ⌜ now (line .exit) ≡ over (headLine points frames) (now (line .entry)) ⌝ }
 {
-    let at = append(b"points ", line, 0);
-    let at = append_decimal(points, line, at);
-    let at = append(b" frames ", line, at);
-    let at = append_decimal(frames, line, at);
+    let at = append_number(b"points ", points, line, 0);
+    let at = append_number(b" frames ", frames, line, at);
     append(b"\n", line, at)
 }
 
@@ -30,11 +29,9 @@ pub fn refusal_line(refusal: Refusal, line: &mut [u8; 64]) -> usize
     ensures { λ _. ⌜ now (line .exit) ≡ over (refusalLine refusal) (now (line .entry)) ⌝ }
 {
     let number = refusal.number();
-    let at = append(b"refused ", line, 0);
-    let at = append_decimal(number as usize, line, at);
+    let at = append_number(b"refused ", number as usize, line, 0);
     if number == 10 {
-        let at = append(b" ", line, at);
-        let at = append_decimal(refusal.points_needed(), line, at);
+        let at = append_number(b" ", refusal.points_needed(), line, at);
         append(b"\n", line, at)
     } else {
         append(b"\n", line, at)
@@ -50,13 +47,15 @@ fn append(text: &[u8], line: &mut [u8], at: usize) -> usize
     at + n
 }
 
-// Puts the decimal digits of n into line at an index, and answers the index behind them.
-fn append_decimal(n: usize, line: &mut [u8], at: usize) -> usize
-    requires { ⌜ at + 20 ≤ length (now line) ⌝ }
-    ensures { λ r. ⌜ r ≤ at + 20 ⌝ }
-    ensures { λ r. ⌜ Appended (decimal n) (now (line .entry)) at (now (line .exit)) r ⌝ }
+// Puts text and behind it the decimal digits of n into line at an index, and answers the index
+// behind them.
+fn append_number(text: &[u8], n: usize, line: &mut [u8], at: usize) -> usize
+    requires { ⌜ at + length (now text) + 20 ≤ length (now line) ⌝ }
+    ensures { λ r. ⌜ r ≤ at + length (now (text .entry)) + 20 ⌝ }
+    ensures { λ r. ⌜ Appended (now (text .entry) ++ decimal n) (now (line .entry)) at (now (line .exit)) r ⌝ }
 {
     let mut digits = [0u8; 20];
     let k = io::decimal(n as u64, &mut digits);
+    let at = append(text, line, at);
     append(&digits[..k], line, at)
 }
