@@ -1,2 +1,2 @@
 -- How C names the Ouster settings.
-pub mod Ouster
+pub mod Settings
