@@ -30,12 +30,12 @@ fn list(data: &[u8]) {
     let answer = read(data, &mut bits, &mut kinds);
     match answer {
         Answer::Read { points, frames } => {
-            let n = listing::head_line(points, frames, &mut line);
+            let n = head_lines::head_line(points, frames, &mut line);
             write(&line[..n]);
             list_points(points, &bits, &kinds);
         }
         Answer::Refused(refusal) => {
-            let n = listing::refusal_line(refusal, &mut line);
+            let n = head_lines::refusal_line(refusal, &mut line);
             write(&line[..n]);
         }
     }
@@ -57,7 +57,7 @@ fn list_points(points: usize, bits: &[u32; 12288], kinds: &[u8; 4096])
 {
     for k in 0..points {
         let at = k * 3;
-        let line = listing::point_line(kinds[k], bits[at], bits[at + 1], bits[at + 2]);
+        let line = point_lines::point_line(kinds[k], bits[at], bits[at + 1], bits[at + 2]);
         write(&line);
     }
 }

@@ -1,4 +1,4 @@
--- What the frames and packages of a Livox file are, and one step of the walk over them.
+-- Which frames and packages a Livox file has, and one step of the walk over them.
 pub mod Packages
 pub mod Frames
 pub mod Steps

@@ -1,2 +1,0 @@
--- How C names the Ouster settings.
-pub mod Ouster

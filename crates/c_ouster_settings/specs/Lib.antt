@@ -1,0 +1,2 @@
+-- How C names the Ouster settings.
+pub mod Settings

@@ -1,3 +1,0 @@
--- The lines of the lister.
-pub mod Appended
-pub mod Listing

@@ -1,0 +1,2 @@
+-- The laws of a frame at a place.
+pub mod FrameHeader

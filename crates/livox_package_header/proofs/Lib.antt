@@ -1,0 +1,2 @@
+-- The laws of a package at a place.
+pub mod PackageHeader

@@ -1,0 +1,2 @@
+-- The laws of a point's line.
+mod Lines

@@ -1,0 +1,2 @@
+-- The lister's line of a point.
+pub mod PointLine
