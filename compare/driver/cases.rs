@@ -20,6 +20,9 @@ const LONGEST: usize = 420;
 /// The same for packets.
 const LONGEST_PACKETS: usize = 4000;
 
+/// The first cases of a generator are for boundaries; this one is any.
+const ANY_CASE: u64 = u64::MAX;
+
 /// As the program writes them, by the number that the C form has for each.
 const ENCODINGS: [&str; 4] = ["millimetres", "ten millimetres", "spherical", "float"];
 
@@ -62,17 +65,17 @@ pub fn print_more(seed: u64, of_each: u64) {
         let room = random.within(0, 8);
         let reading = random.pick(&[Reading::Rust, Reading::Savefile]);
         let read = u8::from(reading == Reading::Savefile);
-        let kitti = short(&mut random, LONGEST, |random| kitti::file(random, 1000));
+        let kitti = short(&mut random, LONGEST, |random| kitti::file(random, ANY_CASE));
         print(case, "kitti", &kitti, &format!("{room}"));
         print(case, "kitti-bits", &kitti, &format!("{room}"));
         let capture = short(&mut random, LONGEST, |random| {
-            capture_files::file(random, 1000, reading).data
+            capture_files::file(random, ANY_CASE, reading).data
         });
         let (port, rank) = (random.pick(&[0, 0, 2368]), random.within(0, 2));
         print(case, "payload", &capture, &format!("{read} {port} {rank}"));
         for (form, name) in [(Form::Lvx, "lvx"), (Form::Lvx2, "lvx2")] {
             let file = short(&mut random, LONGEST, |random| {
-                livox_files::file(random, 1000, form)
+                livox_files::file(random, ANY_CASE, form)
             });
             print(case, name, &file, &format!("{room}"));
             let rank = random.within(0, 3);

@@ -66,7 +66,9 @@ pub fn hold((number, bits): Placed, pulse_length: u32, exact: i128) -> Result<()
     if number != 0 {
         return hold_refused((number, bits), expected);
     }
-    if within_half(bits, exact) {
+    // 01's own words for the number; the demand, which bounds it, is held beside it.
+    let by_words = (exact as f32 / 1_000_000.0).to_bits();
+    if within_half(bits, exact) && bits == by_words {
         Ok(())
     } else {
         Err(format!(
