@@ -1,10 +1,18 @@
-//! Counts what was compared and tells each difference.
+//! Counts what was compared, tells each difference, and says now and then how far it is.
+
+use std::time::{Duration, Instant};
 
 /// Differences beyond these are counted and not told.
 const TOLD: u64 = 3;
 
-/// Of a file that differs, the shortest beginning that differs is told, up to this length.
-const SHRINK: usize = 4096;
+/// A file that differs is told as a smaller one that differs too, made in at most so many tries.
+const TRIES: u32 = 20_000;
+
+/// A file that is still longer is not printed.
+const PRINTED: usize = 4096;
+
+/// The time between two lines of progress.
+const PROGRESS: Duration = Duration::from_secs(5);
 
 pub struct Tally {
     reader: &'static str,
@@ -12,6 +20,7 @@ pub struct Tally {
     seed: u64,
     files: u64,
     differences: u64,
+    told: Instant,
 }
 
 impl Tally {
@@ -22,6 +31,7 @@ impl Tally {
             seed,
             files: 0,
             differences: 0,
+            told: Instant::now(),
         }
     }
 
@@ -30,7 +40,7 @@ impl Tally {
         Tally { things, ..self }
     }
 
-    /// Compares one file. `compare` is called again on beginnings of a file that differs.
+    /// Compares one file. `compare` is called again on smaller files where this one differs.
     pub fn file(
         &mut self,
         case: u64,
@@ -38,20 +48,28 @@ impl Tally {
         mut compare: impl FnMut(&[u8]) -> Result<(), String>,
     ) {
         self.files += 1;
+        self.tell_progress();
         let Err(what) = compare(data) else { return };
         self.differences += 1;
         if self.differences > TOLD {
             return;
         }
-        let shorter = (0..data.len().min(SHRINK))
-            .find_map(|length| Some((length, compare(&data[..length]).err()?)));
-        let (length, what) = shorter.unwrap_or((data.len(), what));
+        let (small, what) = shrunk(data, what, compare);
         eprintln!("{}: seed {}, case {case}: {what}", self.reader, self.seed);
         eprintln!(
-            "  data of {length} bytes, the case has {}: {}",
+            "  data of {} bytes, the case has {}: {}",
+            small.len(),
             data.len(),
-            hex(&data[..length])
+            hex(&small)
         );
+    }
+
+    fn tell_progress(&mut self) {
+        // The clock is asked once in a while.
+        if self.files % 64 == 0 && self.told.elapsed() >= PROGRESS {
+            self.told = Instant::now();
+            eprintln!("{}: {} {} so far", self.reader, self.files, self.things);
+        }
     }
 
     /// Counts a difference that was found without the original.
@@ -76,8 +94,52 @@ impl Tally {
     }
 }
 
+/// A small file that differs, and what differs in it: parts are left out, and then bytes made 0, as
+/// long as a difference stays.
+fn shrunk(
+    data: &[u8],
+    what: String,
+    mut compare: impl FnMut(&[u8]) -> Result<(), String>,
+) -> (Vec<u8>, String) {
+    let mut small = (data.to_vec(), what);
+    let mut tries = 0;
+    let mut differs = |smaller: Vec<u8>, small: &mut (Vec<u8>, String)| {
+        tries += 1;
+        if tries > TRIES {
+            return false;
+        }
+        match compare(&smaller) {
+            Ok(()) => false,
+            Err(what) => {
+                *small = (smaller, what);
+                true
+            }
+        }
+    };
+    let mut part = data.len();
+    while part > 0 {
+        // From the end, so that what leads to a place stays as long as the place matters.
+        let mut end = small.0.len();
+        while end > 0 {
+            let start = end.saturating_sub(part);
+            let without = [&small.0[..start], &small.0[end..]].concat();
+            differs(without, &mut small);
+            end = start.min(small.0.len());
+        }
+        part /= 2;
+    }
+    for at in 0..small.0.len() {
+        if small.0[at] != 0 {
+            let mut zeroed = small.0.clone();
+            zeroed[at] = 0;
+            differs(zeroed, &mut small);
+        }
+    }
+    small
+}
+
 fn hex(data: &[u8]) -> String {
-    if data.len() > SHRINK {
+    if data.len() > PRINTED {
         return "too long to print".to_string();
     }
     data.iter().map(|byte| format!("{byte:02x}")).collect()

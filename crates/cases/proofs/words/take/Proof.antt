@@ -1,6 +1,5 @@
 -- `words::take` is safe and ends. Assumes nothing.
 use Prim.Native.Nat.{_-_}
-use native.Mathlib.Omega.{arith}
 use lib.ListN.{length}
 use borrow.Author.Needs.{needs}
 use Rattle.cases.proofs.words.take.Statement.{statement}
