@@ -175,7 +175,7 @@ uint8_t lidar_payload_place(const uint8_t *data, size_t data_len,
                             uint16_t port, size_t rank, size_t *start, size_t *len);
 
 /* Finds the next payload, and gives back whether there was one. *at is where the walk stands: 0
-   before the first call, and then what the last call left in it, behind the payload's record.
+   before the first call, and then what the last call left in it, after the payload's record.
    Where there is no payload more, or the capture is refused, *at stays.
 
        size_t at = 0, start, len;

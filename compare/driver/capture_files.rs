@@ -124,7 +124,7 @@ fn any(random: &mut Random, reading: Reading) -> Capture {
         0 | 1 => data.truncate(random.below(data.len() + 1)),
         2 => data.extend((0..random.below(60)).map(|i| i as u8)),
         3 => damage(random, &mut data, FILE_HEADER),
-        // Noise behind a good header.
+        // Noise after a good header.
         4 => data[FILE_HEADER..].fill_with(|| random.next() as u8),
         5 => data[FILE_HEADER..].fill_with(|| random.below(3) as u8),
         _ => {}
@@ -177,7 +177,7 @@ pub fn of_packets(
     data
 }
 
-/// Flips bits behind the first bytes.
+/// Flips bits after the first bytes.
 fn damage(random: &mut Random, data: &mut [u8], kept: usize) {
     let rest = &mut data[kept..];
     if !rest.is_empty() {

@@ -170,7 +170,7 @@ impl Call<'_> {
         }
         for _ in 0..2 {
             self.hold_step(at, none_from(at))
-                .map_err(|what| format!("behind the last payload: {what}"))?;
+                .map_err(|what| format!("after the last payload: {what}"))?;
         }
         Ok(())
     }

@@ -151,7 +151,7 @@ fn with_frames(random: &mut Random, form: Form, frames: u64) -> Vec<u8> {
     data
 }
 
-/// Frames of one package each, whose body runs on over the frames behind it to the end of the file.
+/// Frames of one package each, whose body runs on over the frames after it to the end of the file.
 fn overlapping(random: &mut Random, form: Form, frames: usize, length: usize) -> Vec<u8> {
     let layout = form.layout();
     let mut data = header(random, form, 28, 0);

@@ -46,7 +46,7 @@ impl Form {
 
 /// The first files have one device, and are cut at every length.
 const CUTS: u64 = 300;
-/// The next have every count of devices, each with data that ends before, at and behind the section.
+/// The next have every count of devices, each with data that ends before, at and after the section.
 const DEVICES: u64 = 3 * 256;
 /// From this case on a file is any.
 pub const ANY: u64 = CUTS + DEVICES;
@@ -91,7 +91,7 @@ fn any(random: &mut Random, form: Form) -> Vec<u8> {
         0 | 1 => data.truncate(random.below(data.len() + 1)),
         2 | 3 => damage(random, &mut data, 29),
         4 => damage(random, &mut data, 0),
-        // Noise behind a good header: any bytes, and small ones.
+        // Noise after a good header: any bytes, and small ones.
         5 if data.len() > 29 => data[29..].fill_with(|| random.next() as u8),
         6 if data.len() > 29 => data[29..].fill_with(|| random.below(3) as u8),
         7 if form == Form::Lvx2 && data.len() >= 12 => {
@@ -244,7 +244,7 @@ fn set_length(data: &mut [u8], at: usize, length: usize, form: Form) {
     }
 }
 
-/// A next offset that leads back, stays, falls into this frame, behind the data or around 2^64.
+/// A next offset that leads back, stays, falls into this frame, after the data or around 2^64.
 fn wrong_next(
     random: &mut Random,
     place: usize,
@@ -282,7 +282,7 @@ fn wrong_length(random: &mut Random, data: &mut [u8], at: usize, form: Form) {
     set_length(data, at, length, form);
 }
 
-/// Flips bits behind the first bytes.
+/// Flips bits after the first bytes.
 fn damage(random: &mut Random, data: &mut [u8], kept: usize) {
     if data.len() > kept {
         let rest = &mut data[kept..];

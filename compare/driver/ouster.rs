@@ -188,10 +188,10 @@ pub fn packet(random: &mut Random, settings: &OusterSettings) -> Vec<u8> {
     bytes
 }
 
-/// The call has written the settings, and nothing behind the elevations.
+/// The call has written the settings, and nothing after the elevations.
 fn made_ready(mut got: OusterSettings, want: OusterSettings) -> Result<(), String> {
     if got.beam_altitudes.pop() != Some(1111.0) {
-        return Err("what lies behind the elevations changed".to_string());
+        return Err("what lies after the elevations changed".to_string());
     }
     let bits = |settings: &OusterSettings| -> Vec<u32> {
         settings

@@ -1,4 +1,4 @@
-//! The generator behind every case: splitmix64, so that a seed gives the same files everywhere.
+//! The generator after every case: splitmix64, so that a seed gives the same files everywhere.
 
 pub struct Random(u64);
 

@@ -138,7 +138,7 @@ pub fn packet(random: &mut Random) -> Vec<u8> {
         5 => random.pick(&[0x21, 0x35]),
         _ => random.next() as u8,
     };
-    // What lies before it is no model byte, nor is what lies behind.
+    // What lies before it is no model byte, nor is what lies after.
     bytes[PACKET - 2] = random.pick(&[0x22, 0x28, 0x37, 0x38]);
     bytes.truncate(length);
     bytes

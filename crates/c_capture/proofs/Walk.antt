@@ -20,9 +20,9 @@ use Rattle.capture.specs.Payloads.{placesFrom, payloads, startCursor, stepOf}
 use Rattle.capture.proofs.Steps.{step-end, step-payload, step-on}
 use Rattle.c_capture.specs.Capture.{nextTold, tellStep, movedTo, tellNext}
 
--- Where the walk stands, it stands behind the file header.
-behind-header : (at : ℕ) → 24 ≤ cond (ltb at 24) 24 at
-behind-header at =
+-- Where the walk stands, it stands after the file header.
+after-header : (at : ℕ) → 24 ≤ cond (ltb at 24) 24 at
+after-header at =
     elim (decLe 24 at) [
       | yes h ↦ rw (le-ltb at 24 h) h
       | no h ↦ rw (lt-ltb at 24 (lt-of-not-le h)) (omega arith)
@@ -71,6 +71,6 @@ module _ (reading : Reading) (port : ℕ) (bytes : List ℕ) where
       one (Payload p next) q t =
           let on = step-on (cursorAt at) bytes p next q in
           let same : next .at ≡ after = cc in
-          let behind : 24 ≤ after = omega (arith, behind-header at) in
-          let there : cursorAt after ≡ next = rw (le-ltb after 24 behind, ← same) (sym (on .1)) in
+          let past : 24 ≤ after = omega (arith, after-header at) in
+          let there : cursorAt after ≡ next = rw (le-ltb after 24 past, ← same) (sym (on .1)) in
           (p, cc, cc, rw there (step-payload (cursorAt at) bytes p next q))

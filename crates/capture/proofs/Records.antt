@@ -1,4 +1,4 @@
--- From a place on the walk ends, or has what the record there holds and goes on behind it. Assumes nothing.
+-- From a place on the walk ends, or has what the record there holds and goes on after it. Assumes nothing.
 use Prim.Native.Nat.{ℕ, _+_, _-_, _≤_, _<_}
 use native.Mathlib.Omega.{arith}
 use mathlib.Core.Path.{_≡_, _∙_}

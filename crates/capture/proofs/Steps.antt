@@ -1,4 +1,4 @@
--- The walk by steps. Behind the record of a payload the walk has exactly the later payloads (`later`), so going from cursor to cursor yields the payloads in
+-- The walk by steps. After the record of a payload the walk has exactly the later payloads (`later`), so going from cursor to cursor yields the payloads in
 -- order (`step-end`, `step-payload`). Every payload lies inside the capture and is not empty (`all-within`), and so the part that is handed back is empty exactly
 -- if the capture is refused or has no payload of that rank (`empty-exactly`). Assumes nothing.
 use Prim.Native.Nat.{ℕ, zero, suc, _+_, _-_, _≤_, _<_, zero-le}
@@ -32,7 +32,7 @@ module _ (reading : Reading) (big : Bool) (port : ℕ) (bytes : List ℕ) where
   abbrev records : ℕ → ℕ → List RecordAt
   records b at = recordsFrom b (orderOf big) bytes at
 
-  -- one record and those behind it
+  -- one record and those after it
   pub one-more : (b at : ℕ) → at + 16 + capturedAt (orderOf big) bytes at ≤ length bytes
       → found (records (suc b) at) ≡ foundIn reading port bytes (record { header = at; captured = capturedAt (orderOf big) bytes at }) ++ found (records b (at + 16 + capturedAt (orderOf big) bytes at))
   unfolding recordsFrom flatMap
@@ -75,7 +75,7 @@ module _ (reading : Reading) (big : Bool) (port : ℕ) (bytes : List ℕ) where
   unfolding foundFrom
   later at f rest e = later-ones (length bytes) at f rest (omega arith) e
 
-  -- The walk goes on further behind.
+  -- The walk goes on further after.
   ahead : (r : RecordAt) (s : Start) (rest l : List Found) (f : Found) (from : ℕ) → from < recordEnd r → ofStart r s ++ rest ≡ f ∷ l → (rest ≡ f ∷ l → from < f .next) → from < f .next
   ahead r Nothing rest l f from h e go = go e
   ahead r (At start) rest l f from h e go = let next : recordEnd r ≡ f .next = cc in omega arith

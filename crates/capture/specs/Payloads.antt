@@ -23,11 +23,11 @@ use Rattle.savefile.specs.Savefile.{RecordAt, recordsFrom, bigEndian, orderOf, 
 abbrev pub recordBytes : List ℕ → RecordAt → List ℕ
 recordBytes bytes r = take (r .captured) (drop (r .header + 16) bytes)
 
--- Where the walk goes on behind a record.
+-- Where the walk goes on after a record.
 abbrev pub recordEnd : RecordAt → ℕ
 recordEnd r = r .header + 16 + r .captured
 
--- A payload, and where the walk goes on behind its record.
+-- A payload, and where the walk goes on after its record.
 pub record Found : Type 0 where
   pub place : Place
   pub next : ℕ
@@ -51,7 +51,7 @@ unfoldable pub placesFrom : Cursor → List ℕ → List Place
 unfolding foundFrom
 placesFrom cursor bytes = map (λ (f : Found). f .place) (foundFrom (cursor .reading) (cursor .«big_endian») (cursor .port) bytes (cursor .at))
 
--- The cursor behind the file header.
+-- The cursor after the file header.
 abbrev pub startCursor : Reading → ℕ → List ℕ → Cursor
 startCursor reading port bytes = record { at = 24; port = port; reading = reading; «big_endian» = bigEndian reading bytes }
 
@@ -78,7 +78,7 @@ PartAt start whole part = (part .0 ≡ whole .0) × (part .1 ≡ start + whole .
 
 -- ---- the walk by steps
 
--- Opening a capture gives a number and, where that is 0, the cursor behind the file header.
+-- Opening a capture gives a number and, where that is 0, the cursor after the file header.
 unfoldable pub opening : Reading → ℕ → List ℕ → ℕ × List Cursor
 opening reading port bytes =
     let n = firstRefusal (checks reading bytes) in
@@ -89,7 +89,7 @@ abbrev pub openedAs : Opened → ℕ × List Cursor
 openedAs (Openings.Walk cursor) = (0, cursor ∷ [])
 openedAs (Openings.Refused refusal) = (refusalNumber refusal, [])
 
--- A step gives the first payload from the cursor on, and the cursor behind its record.
+-- A step gives the first payload from the cursor on, and the cursor after its record.
 abbrev pub stepTo : Cursor → List Found → Step
 stepTo cursor [] = Steps.End
 stepTo cursor (found ∷ later) =

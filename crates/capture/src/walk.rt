@@ -56,7 +56,7 @@ pub fn open(data: &[u8], port: u16) -> Opened
 }
 
 impl Cursor {
-    // The next payload, and the cursor behind its record.
+    // The next payload, and the cursor after its record.
     pub fn step(self, data: &[u8]) -> Step
         ensures { λ r. ⌜ r ≡ stepOf self (now («data» .entry)) ⌝ }
     {

@@ -73,7 +73,7 @@ captureRows =
     ∷ capture Rust 0 fileA1 tells payloads 0 []
     ∷ capture Rust 0 file4d tells payloads 0 []
     ∷ capture Rust 0 fileA1Nanoseconds tells payloads 0 []
-    -- IHL 5, untagged: a record of 42 bytes gives nothing, 43 gives one byte. The Rust's reading takes these lengths behind the reversed magic.
+    -- IHL 5, untagged: a record of 42 bytes gives nothing, 43 gives one byte. The Rust's reading takes these lengths after the reversed magic.
     ∷ capture Savefile 0 (fileD4 ++ record42) tells payloads 0 []
     ∷ capture Savefile 0 (fileD4 ++ record43) tells payloads 0 (payload 24 82 (0xab ∷ []) ∷ [])
     ∷ capture Rust 0 (fileA1 ++ record42) tells payloads 0 []

@@ -13,7 +13,7 @@ use Rattle.answers.specs.Answer.{refusalNumber, refusalPoints}
 use Rattle.io.specs.Counts.{Counts}
 use Rattle.points.specs.ReadInto.{over}
 use Rattle.points.proofs.Laying.{tail-lent, tail-back}
-use Rattle.points.proofs.Lists.{behind, over-more}
+use Rattle.points.proofs.Lists.{after, over-more}
 use Rattle.head_lines.specs.Appended.{Appended}
 use Rattle.head_lines.specs.HeadLines.{decimal, pointsText, framesText, refusedText, space, lineEnd, headLine, refusalLine}
 
@@ -23,16 +23,16 @@ pub copied : (text old : List ℕ) (at : ℕ) {new : List ℕ} {n : ℕ} → at 
 unfolding over
 copied text old at {new} h e f = (rw e, tail-back at old h new ∙ rw (f, take-length, tail-lent at old h))
 
--- one text and then another behind it
+-- one text and then another after it
 pub both : (text more line : List ℕ) (at : ℕ) {line′ line″ : List ℕ} {mid next : ℕ} → at ≤ length line → Appended text line at line′ mid → Appended more line′ mid line″ next
     → Appended (text ++ more) line at line″ next
 both text more line at {mid = mid} h (e, f) (g, k) =
     let front = take at line in
     let long : length front ≡ at = length-take-le at line h in
     let upto : length (front ++ text) ≡ mid = rw (length-append, long) (sym e) in
-    (g ∙ rw (e, length-append) (omega arith), k ∙ rw (f, behind front text line at long, over-more (front ++ text) more line mid upto, append-assoc) (sym (behind front (text ++ more) line at long)))
+    (g ∙ rw (e, length-append) (omega arith), k ∙ rw (f, after front text line at long, over-more (front ++ text) more line mid upto, append-assoc) (sym (after front (text ++ more) line at long)))
 
--- the text stands over the front of what the line held, and the next index is the one behind it
+-- the text stands over the front of what the line held, and the next index is the one after it
 abbrev pub Begun : List ℕ → List ℕ → List ℕ → ℕ → Type 0
 Begun text old line next = (next ≡ length text) × (line ≡ over text old)
 
@@ -50,7 +50,7 @@ counted text old {line} {next} (e, f) =
     let within : next ≤ length line = rw (f, length-append) (omega arith) in
     ((within, sym (length-take-le next line within)), (e, f))
 
--- the lines, by what code puts one behind another
+-- the lines, by what code puts one after another
 pub head-is : (points frames : ℕ) → pointsText ++ decimal points ++ (framesText ++ decimal frames) ++ lineEnd ∷ [] ≡ headLine points frames
 unfolding headLine
 head-is points frames = ap (λ (t : List ℕ). t ++ lineEnd ∷ []) (sym (append-assoc (pointsText ++ decimal points) framesText (decimal frames)))

@@ -38,7 +38,7 @@ pub fn refusal_line(refusal: Refusal, line: &mut [u8; 64]) -> usize
     }
 }
 
-// Puts text into line at an index, and answers the index behind the text.
+// Puts text into line at an index, and answers the index after the text.
 fn append(text: &[u8], line: &mut [u8], at: usize) -> usize
     requires { ⌜ at + length (now text) ≤ length (now line) ⌝ }
     ensures { λ r. ⌜ Appended (now (text .entry)) (now (line .entry)) at (now (line .exit)) r ⌝ }
@@ -47,8 +47,8 @@ fn append(text: &[u8], line: &mut [u8], at: usize) -> usize
     at + n
 }
 
-// Puts text and behind it the decimal digits of n into line at an index, and answers the index
-// behind them.
+// Puts text and after it the decimal digits of n into line at an index, and answers the index
+// after them.
 fn append_number(text: &[u8], n: usize, line: &mut [u8], at: usize) -> usize
     requires { ⌜ at + length (now text) + 20 ≤ length (now line) ⌝ }
     ensures { λ r. ⌜ r ≤ at + length (now (text .entry)) + 20 ⌝ }

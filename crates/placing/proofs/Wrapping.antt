@@ -1,4 +1,4 @@
--- The pulses of two counts are the difference of the whole counts behind them, where those are less than 2 ^ 31 apart: the low 32 bits of a difference are those of
+-- The pulses of two counts are the difference of the whole counts after them, where those are less than 2 ^ 31 apart: the low 32 bits of a difference are those of
 -- the low 32 bits' difference (`low-difference`), and a small number is what its low 32 bits say, read with their sign (`small-signed`). Assumes nothing.
 use Prim.Native.Nat.{ℕ, zero, suc, _+_, _-_, _%_, _^_, _≤_, _<_, suc-le-suc}
 use native.Mathlib.Nat.{lt-of-not-le}

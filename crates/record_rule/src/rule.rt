@@ -102,7 +102,7 @@ fn is_other_port(bytes: &[u8], udp: usize, port: u16) -> bool
     port != 0 && u16_at(bytes, udp + 2) != port
 }
 
-// Where the EtherType stands: behind one tag, or without one.
+// Where the EtherType stands: after one tag, or without one.
 fn type_at(bytes: &[u8]) -> usize
     requires { ⌜ 42 ≤ length (now bytes) ⌝ }
     ensures { λ r. ⌜ r ≡ typeAt (now (bytes .entry)) ⌝ }

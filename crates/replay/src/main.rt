@@ -73,7 +73,7 @@ fn count(data: &[u8], reading: Reading, port: u16) -> usize {
 }
 
 // A line for each payload: its rank, then its start and length as the step tells them, then its bytes as the call by rank hands them back. Last, the rank
-// behind them all.
+// after them all.
 fn show_payloads(name: &[u8], data: &[u8], first: Cursor) {
     let mut cursor = first;
     let mut rank: usize = 0;

@@ -84,9 +84,9 @@ def live(name):
     send(2368, b"first")
     send(7502, b"on another port")
     send(2368, b"")
-    send(2368, b"behind one word of options", bytes([1, 1, 1, 0]))
+    send(2368, b"after one word of options", bytes([1, 1, 1, 0]))
     send(9, b"x")
-    send(2368, b"behind ten words of options", bytes([1] * 39 + [0]))
+    send(2368, b"after ten words of options", bytes([1] * 39 + [0]))
     with socket.socket(socket.AF_INET, socket.SOCK_STREAM) as s:
         s.connect_ex(("127.0.0.1", 9))
     with socket.socket(socket.AF_INET6, socket.SOCK_DGRAM) as s:
@@ -143,7 +143,7 @@ def main():
         ethernet(ip(udp(b"\xab")), tags=[(0x8100, 5)]),
     ])
 
-    # IP headers: IHL 6, 10 and 15, tagged too; IHL 4 and 0, which are wrong; an IP version of 6 behind IPv4's EtherType.
+    # IP headers: IHL 6, 10 and 15, tagged too; IHL 4 and 0, which are wrong; an IP version of 6 after IPv4's EtherType.
     text2pcap("headers.pcap", [
         ethernet(ip(udp(b"IHL 6"), options=bytes([1, 1, 1, 0]))),
         ethernet(ip(udp(b"IHL 10"), options=bytes([1] * 19 + [0]))),
@@ -168,7 +168,7 @@ def main():
         ethernet(ip(udp(b"UDP"))),
     ])
 
-    # Lengths: padding to 60 bytes behind one byte, behind none; no padding behind none; a checksum of the frame; a UDP length that is too short, too long,
+    # Lengths: padding to 60 bytes after one byte, after none; no padding after none; a checksum of the frame; a UDP length that is too short, too long,
     # 0 or below 8; an IP length that is too short.
     text2pcap("lengths.pcap", [
         ethernet(ip(udp(b"\xab"))) + bytes(17),
@@ -192,7 +192,7 @@ def main():
         ethernet(ip(udp(b"whole"))),
     ])
 
-    # Records cut short by a snap length: inside a payload, behind the UDP header, inside it. Files that end inside a record, and inside a record's header.
+    # Records cut short by a snap length: inside a payload, after the UDP header, inside it. Files that end inside a record, and inside a record's header.
     for snap in (47, 42, 40):
         run("editcap", "-F", "pcap", "-s", str(snap), path("live.pcap"), path(f"snap_{snap}.pcap"))
     text2pcap("cut.pcap", [ethernet(ip(udp(b"this one is whole"))), ethernet(ip(udp(b"and this one is not")))])

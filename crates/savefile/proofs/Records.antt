@@ -1,4 +1,4 @@
--- Laws of the records: the bound on their number is not felt, behind a record that is there come the others, and code's test of a record. Assumes nothing.
+-- Laws of the records: the bound on their number is not felt, after a record that is there come the others, and code's test of a record. Assumes nothing.
 use Prim.Native.Nat.{ℕ, zero, suc, _+_, _≤_, _<_}
 use native.Mathlib.Nat.{lt-of-not-le}
 use native.Mathlib.Decide.{decLe}
@@ -32,7 +32,7 @@ module _ (order : ByteOrder) (bytes : List ℕ) where
       let rest : recordsFrom b order bytes (at + 16 + n) ≡ recordsFrom c order bytes (at + 16 + n) = enough b c (at + 16 + n) (omega arith) (omega arith) in
       ap (λ (t : List RecordAt). cond (leb (at + 16 + n) (length bytes)) (record { header = at; captured = n } ∷ t) []) rest
 
-  -- Behind a record that is there the walk goes on, with as large a bound.
+  -- After a record that is there the walk goes on, with as large a bound.
   pub onward : (bound at n : ℕ) → length bytes ≤ bound → n ≡ capturedAt order bytes at → at + 16 + n ≤ length bytes
       → recordsFrom bound order bytes at ≡ record { header = at; captured = n } ∷ recordsFrom bound order bytes (at + 16 + n)
   unfolding recordsFrom

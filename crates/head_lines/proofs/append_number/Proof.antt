@@ -1,4 +1,4 @@
--- `head_lines::append_number` meets its contract: the digits are the fewest that hold the number, so they are those of the definition, and they go behind the
+-- `head_lines::append_number` meets its contract: the digits are the fewest that hold the number, so they are those of the definition, and they go after the
 -- text (`both`). Assumes nothing.
 use Prim.Native.Nat.{_≤_}
 use native.Mathlib.Omega.{arith}

@@ -1,4 +1,4 @@
--- `head_lines::head_line` meets its contract: each call puts the next part of the definition behind the last. Assumes nothing.
+-- `head_lines::head_line` meets its contract: each call puts the next part of the definition after the last. Assumes nothing.
 use Rattle.head_lines.proofs.Lines.{first, then, counted, head-is}
 use borrow.Author.Needs.{needs}
 use Rattle.head_lines.proofs.head_line.Statement.{statement}

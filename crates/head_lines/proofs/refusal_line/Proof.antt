@@ -1,4 +1,4 @@
--- `head_lines::refusal_line` meets its contract: each call puts the next part of the definition behind the last. Assumes nothing.
+-- `head_lines::refusal_line` meets its contract: each call puts the next part of the definition after the last. Assumes nothing.
 use mathlib.Core.Path.{sym, _∙_}
 use Rattle.head_lines.proofs.Lines.{Begun, first, then, counted, refused, no-room-is, other-is}
 use borrow.Author.Needs.{needs}

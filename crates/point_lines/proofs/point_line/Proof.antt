@@ -67,7 +67,7 @@ sub-copy-3 c = search needs
 part-line-start-3 : tie.Need-part-line-start-3
 part-line-start-3 c = search needs
 
--- the second's, behind the first's
+-- the second's, after the first's
 module _ (c : tie.After-copy2) where
   y-digits : c .copy2 .last .1 .0 ≡ hexDigits (c .before .before .before .before .before .before .before .before .before .before .args .y)
   unfolding hexDigits
@@ -83,7 +83,7 @@ copy-requires-3 c κs = search needs
 array-write-line-2 : tie.Need-array-write-line-2
 array-write-line-2 c = search needs
 
--- the third's, behind both
+-- the third's, after both
 module _ (c : tie.After-copy3) where
   z-digits : c .copy3 .last .1 .0 ≡ hexDigits (c .before .before .before .before .before .before .before .before .before .before .before .before .before .before .before .args .z)
   unfolding hexDigits

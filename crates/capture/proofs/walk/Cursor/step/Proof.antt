@@ -1,5 +1,5 @@
 -- `capture::Cursor::step` meets its contract. The loop's invariant: from the place reached the walk has the payloads that it has from the cursor on. A record
--- that is passed over moves the place behind it, and a payload is the first of them. Assumes nothing.
+-- that is passed over moves the place after it, and a payload is the first of them. Assumes nothing.
 use Prim.Native.Nat.{ℕ, _+_, _-_, _≤_, _<_}
 use native.Mathlib.Omega.{arith}
 use mathlib.Core.Path.{_≡_, refl, sym, ap, _∙_}
