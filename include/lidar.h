@@ -25,7 +25,7 @@ enum lidar_number {
     LIDAR_DEVICES_PAST_END = 7,   /* Livox: the device section ends past the data */
     LIDAR_NOT_WHOLE_RECORDS = 8,  /* KITTI: the length is not a multiple of 16 bytes */
     LIDAR_NO_PAYLOAD = 9,         /* capture: no payload on the reader's port */
-    LIDAR_NO_ROOM = 10,           /* a slice is too short; *points tells the points needed */
+    LIDAR_NO_ROOM = 10,           /* a buffer is too short; *points tells the points needed */
     LIDAR_NOT_PLACEABLE = 11,     /* placing: not a whole-millimetre Livox point, or no such rank */
     LIDAR_BAD_PULSE_LENGTH = 12,  /* placing: outside 1 to 1000 micrometres */
     LIDAR_OUTSIDE_WINDOW = 13     /* placing: beyond 16000000 micrometres either way */
@@ -94,7 +94,8 @@ uint8_t lidar_read_lvx2_bits(const uint8_t *data, size_t data_len,
                              size_t *points, size_t *frames);
 
 /* Reads a capture of Velodyne packets, which are the payloads on port 2368. Every point is polar.
-   savefile names the reading, as for captures below; without it the reading is the usual one. */
+   savefile names the reading, as for captures below; lidar_read_velodyne takes no savefile, and
+   its reading is the usual one. */
 uint8_t lidar_read_velodyne_as(const uint8_t *data, size_t data_len, bool savefile,
                                float *numbers, size_t numbers_len,
                                uint8_t *kinds, size_t kinds_len,
@@ -156,14 +157,14 @@ void lidar_os_128(size_t *columns_per_packet, size_t *pixels_per_column, uint16_
 
 /* ---- captures: the UDP payloads of a libpcap savefile
 
-   savefile   the reading: false is the Rust's, which takes the byte order of lengths from the magic
-              the wrong way round; true is the format's, which also passes over an IHL below 5
+   savefile   the reading: false is that of the original, threecrate's lidar.rs, which takes the byte
+              order of lengths from the magic the wrong way round; true is the format's, which also passes over an IHL below 5
    port       the destination port; 0 asks for every one
    start      takes where the payload's first byte stands in the data
    len        takes the payload's length, at least 1
 
    *start and *len are always written: where there is no payload, both are 0.
-   The calls without `savefile` use the usual reading, which is the Rust's. */
+   The calls without `savefile` use the usual reading, which is the original's. */
 
 /* Finds the payload of a rank, counted from 0. Gives back LIDAR_READ, whether or not there is one,
    or LIDAR_TOO_LONG, LIDAR_TOO_SHORT or LIDAR_WRONG_MARK. Takes time for the records up to that
@@ -176,6 +177,7 @@ uint8_t lidar_payload_place(const uint8_t *data, size_t data_len,
 
 /* Finds the next payload, and gives back whether there was one. *at is where the walk stands: 0
    before the first call, and then what the last call left in it, after the payload's record.
+   From any other place it goes on as if a record started there.
    Where there is no payload more, or the capture is refused, *at stays.
 
        size_t at = 0, start, len;

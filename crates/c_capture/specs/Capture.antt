@@ -11,7 +11,7 @@ use Rattle.capture.specs.declared.walk.Step.the-variants.{Payload, End}
 use Rattle.savefile.specs.Savefile.{checks}
 use Rattle.capture.specs.Payloads.{placeOf, startCursor, stepOf}
 
--- The number of the capture's checks, and the start and the length of the payload of a rank: 0 and 0 where there is none.
+-- The number that the capture's checks give, and the start and the length of the payload of a rank: 0 and 0 where there is none.
 pub data PlaceTold : Type 0 where
   placeTold : ℕ → ℕ → ℕ → PlaceTold
 
@@ -31,7 +31,7 @@ abbrev pub tellStep : ℕ → Step → NextTold
 tellStep at End = noNext at
 tellStep at (Payload place next) = nextTold true (next .at) (place .start) (place .len)
 
--- A cursor moved on to a place. A place before it, as one in the file header is, means its own.
+-- A cursor moved on to a place. A place before the cursor's, such as 0, stands for the cursor's.
 abbrev pub movedTo : Cursor → ℕ → Cursor
 movedTo cursor at = record { at = cond (ltb at (cursor .at)) (cursor .at) at; port = cursor .port; reading = cursor .reading; «big_endian» = cursor .«big_endian» }
 

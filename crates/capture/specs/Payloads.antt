@@ -60,10 +60,11 @@ unfoldable pub payloads : Reading → ℕ → List ℕ → List Place
 unfolding placesFrom
 payloads reading port bytes = placesFrom (startCursor reading port bytes) bytes
 
--- The place of the payload of a rank, counted from 0: `nowhere` exactly if the capture is refused or has no payload of that rank.
+-- No place: a payload never starts at 0.
 abbrev pub nowhere : Place
 nowhere = record { header = 0; start = 0; len = 0 }
 
+-- The place of the payload of a rank, counted from 0: `nowhere` exactly if the capture is refused or has no payload of that rank.
 unfoldable pub placeOf : Reading → ℕ → ℕ → List ℕ → Place
 unfolding payloads
 placeOf reading port rank bytes = cond (eqb (firstRefusal (checks reading bytes)) 0) (getD (payloads reading port bytes) rank nowhere) nowhere

@@ -1,4 +1,4 @@
-// What others use: every public call.
+// What others use: the calls of 01, from the crates that hold them.
 
 pub use capture::Cursor;
 pub use capture::Opened;

@@ -12,7 +12,7 @@ glyph d = cond (ltb d 10) (48 + d) (87 + d)
 unfoldable pub hexDigits : ℕ → List ℕ
 hexDigits n = map (λ place. glyph (n / 16 ^ place % 16)) (7 ∷ 6 ∷ 5 ∷ 4 ∷ 3 ∷ 2 ∷ 1 ∷ 0 ∷ [])
 
--- c for a Cartesian point, p for a polar one.
+-- c for kind 1, a Cartesian point; p for any other, of which there is 2, a polar one.
 unfoldable pub letter : ℕ → ℕ
 letter kind = cond (eqb kind 1) 99 112
 

@@ -24,7 +24,7 @@ unfoldable pub firstThat : List (Verdict × Bool) → Verdict → Verdict
 firstThat [] otherwise = otherwise
 firstThat (test ∷ tests) otherwise = cond (test .1) (test .0) (firstThat tests otherwise)
 
--- The tests up to the IP header, then those from there on, for the port that was asked for, of which 0 is every one.
+-- The tests up to the protocol, then those from the IHL on, for the port that was asked for, of which 0 is every one.
 unfoldable pub ipTests : List ℕ → List (Verdict × Bool)
 ipTests bytes =
     (TooShort, ltb (length bytes) 42)

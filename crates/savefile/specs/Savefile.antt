@@ -20,8 +20,8 @@ mostFirstMagic bytes = eqb (unsignedAt big 4 bytes 0) 0xa1b2c3d4 || eqb (unsigne
 
 -- Whether a record's length is big-endian. The format writes the magic in the file's own byte order; the Rust takes it the other way round.
 abbrev pub bigEndianBy : Reading → Bool → Bool
-bigEndianBy Savefile leastFirst = not leastFirst
 bigEndianBy Rust leastFirst = leastFirst
+bigEndianBy Savefile leastFirst = not leastFirst
 
 unfoldable pub bigEndian : Reading → List ℕ → Bool
 unfolding leastFirstMagic
@@ -36,7 +36,7 @@ unfoldable pub fileChecks : Reading → List ℕ → List Check
 unfolding leastFirstMagic mostFirstMagic
 fileChecks reading bytes = (3, ltb (length bytes) 24) ∷ (4, not (leastFirstMagic bytes || mostFirstMagic bytes)) ∷ []
 
--- 1, then those.
+-- A capture's checks: 1, then those of its header.
 unfoldable pub checks : Reading → List ℕ → List Check
 unfolding fileChecks
 checks reading bytes = tooLong bytes ∷ fileChecks reading bytes

@@ -36,7 +36,7 @@ pub fn file_header(data: &[u8], reading: Reading) -> FileHeader
     if data.len() < FILE_HEADER_LEN {
         return FileHeader::Refused(Refusal::TooShort);
     }
-    // Microseconds and nanoseconds, the magic's least significant byte first, and then the most.
+    // Microseconds and nanoseconds: the magic's least significant byte first, then its most.
     match u32_at(data, 0, true) {
         0xd4c3_b2a1 | 0x4d3c_b2a1 => FileHeader::BigEndian(is_big_endian(reading, true)),
         0xa1b2_c3d4 | 0xa1b2_3c4d => FileHeader::BigEndian(is_big_endian(reading, false)),
