@@ -26,28 +26,28 @@ pub enum F32 {
 pub fn read_i16_le(data: &[u8], off: usize) -> I16
     ensures { λ r. ⌜ r ≡ field (λ n. I16.Value (signed 16 n)) I16.Missing little 2 (now («data» .entry)) off ⌝ }
 {
-    match fields::read_u16_le(data, off) {
-        U16::Value(n) => I16::Value(to_i16(n)),
-        U16::Missing => I16::Missing,
-    }
+    let U16::Value(n) = fields::read_u16_le(data, off) else {
+        return I16::Missing;
+    };
+    I16::Value(to_i16(n))
 }
 
 pub fn read_i32_le(data: &[u8], off: usize) -> I32
     ensures { λ r. ⌜ r ≡ field (λ n. I32.Value (signed 32 n)) I32.Missing little 4 (now («data» .entry)) off ⌝ }
 {
-    match fields::read_u32_le(data, off) {
-        U32::Value(n) => I32::Value(to_i32(n)),
-        U32::Missing => I32::Missing,
-    }
+    let U32::Value(n) = fields::read_u32_le(data, off) else {
+        return I32::Missing;
+    };
+    I32::Value(to_i32(n))
 }
 
 pub fn read_f32_le(data: &[u8], off: usize) -> F32
     ensures { λ r. ⌜ r ≡ field (λ n. F32.Value (ofBits binary32 n)) F32.Missing little 4 (now («data» .entry)) off ⌝ }
 {
-    match fields::read_u32_le(data, off) {
-        U32::Value(n) => F32::Value(f32_from_bits(n)),
-        U32::Missing => F32::Missing,
-    }
+    let U32::Value(n) = fields::read_u32_le(data, off) else {
+        return F32::Missing;
+    };
+    F32::Value(f32_from_bits(n))
 }
 
 // The f32 with this pattern. `f32::from_bits` is undefined at a NaN, so a NaN is made by a

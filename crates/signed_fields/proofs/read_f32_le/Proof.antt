@@ -21,17 +21,17 @@ read-u32-le-requires c κs = search needs
 enum-known-n : tie.Need-enum-known-n
 enum-known-n c = search needs
 
-f32-from-bits-requires : tie.Need-f32-from-bits-requires
-f32-from-bits-requires c κs = search needs
-
 enum-told : tie.Need-enum-told
 enum-told c = search needs
 
 returns : tie.Need-returns
-returns c = ap F32.Value (c .f32-from-bits .ensures) ∙ mapped of-pattern U32.Value U32.Missing little 4 _ _ (c .before .before .n .given .1) (c .before .before .before .before .read-u32-le .ensures)
+returns c = mapped of-pattern U32.Value U32.Missing little 4 _ _ (c .enum-told .given .1) (c .before .before .read-u32-le .ensures)
+
+f32-from-bits-requires : tie.Need-f32-from-bits-requires
+f32-from-bits-requires c κs = search needs
 
 returns-2 : tie.Need-returns-2
-returns-2 c = mapped of-pattern U32.Value U32.Missing little 4 _ _ (c .enum-told .given .1) (c .before .before .read-u32-le .ensures)
+returns-2 c = ap F32.Value (c .f32-from-bits .ensures) ∙ mapped of-pattern U32.Value U32.Missing little 4 _ _ (c .before .before .n .given .1) (c .before .before .before .before .read-u32-le .ensures)
 
 pub read-f32-le-spec : {M : Type 1} → statement M
-read-f32-le-spec = tie.close (tie.spec read-u32-le-requires enum-known-n f32-from-bits-requires enum-told returns returns-2)
+read-f32-le-spec = tie.close (tie.spec read-u32-le-requires enum-known-n enum-told returns f32-from-bits-requires returns-2)

@@ -23,17 +23,17 @@ read-u16-le-requires c κs = search needs
 enum-known-n : tie.Need-enum-known-n
 enum-known-n c = search needs
 
-to-i16-requires : tie.Need-to-i16-requires
-to-i16-requires c κs = search needs
-
 enum-told : tie.Need-enum-told
 enum-told c = search needs
 
 returns : tie.Need-returns
-returns c = ap I16.Value (toZ-ofZ w16 _ (record { sfits = c .to-i16 .ok }) ∙ c .to-i16 .ensures) ∙ mapped with-sign U16.Value U16.Missing little 2 _ _ (c .before .before .n .given .1) (c .before .before .before .before .read-u16-le .ensures)
+returns c = mapped with-sign U16.Value U16.Missing little 2 _ _ (c .enum-told .given .1) (c .before .before .read-u16-le .ensures)
+
+to-i16-requires : tie.Need-to-i16-requires
+to-i16-requires c κs = search needs
 
 returns-2 : tie.Need-returns-2
-returns-2 c = mapped with-sign U16.Value U16.Missing little 2 _ _ (c .enum-told .given .1) (c .before .before .read-u16-le .ensures)
+returns-2 c = ap I16.Value (toZ-ofZ w16 _ (record { sfits = c .to-i16 .ok }) ∙ c .to-i16 .ensures) ∙ mapped with-sign U16.Value U16.Missing little 2 _ _ (c .before .before .n .given .1) (c .before .before .before .before .read-u16-le .ensures)
 
 pub read-i16-le-spec : {M : Type 1} → statement M
-read-i16-le-spec = tie.close (tie.spec read-u16-le-requires enum-known-n to-i16-requires enum-told returns returns-2)
+read-i16-le-spec = tie.close (tie.spec read-u16-le-requires enum-known-n enum-told returns to-i16-requires returns-2)

@@ -23,17 +23,17 @@ read-u32-le-requires c κs = search needs
 enum-known-n : tie.Need-enum-known-n
 enum-known-n c = search needs
 
-to-i32-requires : tie.Need-to-i32-requires
-to-i32-requires c κs = search needs
-
 enum-told : tie.Need-enum-told
 enum-told c = search needs
 
 returns : tie.Need-returns
-returns c = ap I32.Value (toZ-ofZ w32 _ (record { sfits = c .to-i32 .ok }) ∙ c .to-i32 .ensures) ∙ mapped with-sign U32.Value U32.Missing little 4 _ _ (c .before .before .n .given .1) (c .before .before .before .before .read-u32-le .ensures)
+returns c = mapped with-sign U32.Value U32.Missing little 4 _ _ (c .enum-told .given .1) (c .before .before .read-u32-le .ensures)
+
+to-i32-requires : tie.Need-to-i32-requires
+to-i32-requires c κs = search needs
 
 returns-2 : tie.Need-returns-2
-returns-2 c = mapped with-sign U32.Value U32.Missing little 4 _ _ (c .enum-told .given .1) (c .before .before .read-u32-le .ensures)
+returns-2 c = ap I32.Value (toZ-ofZ w32 _ (record { sfits = c .to-i32 .ok }) ∙ c .to-i32 .ensures) ∙ mapped with-sign U32.Value U32.Missing little 4 _ _ (c .before .before .n .given .1) (c .before .before .before .before .read-u32-le .ensures)
 
 pub read-i32-le-spec : {M : Type 1} → statement M
-read-i32-le-spec = tie.close (tie.spec read-u32-le-requires enum-known-n to-i32-requires enum-told returns returns-2)
+read-i32-le-spec = tie.close (tie.spec read-u32-le-requires enum-known-n enum-told returns to-i32-requires returns-2)
