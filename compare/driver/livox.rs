@@ -185,6 +185,16 @@ fn long_data(form: Form, calls: &[Call]) -> Result<(), String> {
             )
             .map_err(|what| format!("{length} bytes: {what}"))?;
         }
+        // The calls by rank: there is no point, and then no file.
+        let number = if answer == one_frame { 11 } else { 1 };
+        let lvx2 = form == Form::Lvx2;
+        let belt = placing::belt(&mut Random::of_case(0, 0));
+        let stored = ours::stored_reading(&data[..length], lvx2, 0);
+        if stored != (number, 0, [0; 3]) {
+            return Err(format!("{length} bytes: {stored:?} and not {number}"));
+        }
+        placing::hold_refused(ours::place_in_file(&data[..length], lvx2, 0, belt), number)
+            .map_err(|what| format!("{length} bytes: {what}"))?;
     }
     Ok(())
 }

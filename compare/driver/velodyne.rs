@@ -92,7 +92,27 @@ pub fn compare_packets(seed: u64, files: u64) -> Tally {
             hold_all(&DECODE, &mut canaries, data, &expected, &mut random)
         });
     }
+    tally.beside("the lengths around refusal 1", long_packet());
     tally
+}
+
+/// A packet of zeros has no point, whatever its length. The original has no such limit.
+fn long_packet() -> Result<(), String> {
+    let Some(data) = untouched(TOO_LONG + 1) else {
+        eprintln!("velodyne packets: no {TOO_LONG} bytes to be had, so refusal 1 is left out");
+        return Ok(());
+    };
+    let room = Room {
+        numbers: 5,
+        kinds: 2,
+    };
+    for (length, number) in [(TOO_LONG - 1, 0), (TOO_LONG, 1), (TOO_LONG + 1, 1)] {
+        let data = &data[..length];
+        DECODE[0]
+            .hold_to(&mut Canaries::new(), data, room, refusal(number), &[], &[])
+            .map_err(|what| format!("{length} bytes: {what}"))?;
+    }
+    Ok(())
 }
 
 /// Most have the least length that is read, and one of the bytes that name a model.
