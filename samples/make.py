@@ -64,21 +64,23 @@ def scattered(count):
 
 def height_on_belt(x, y):
     """The height in millimetres of what lies on the belt there. A rotation by 9 : 40 : 41 needs no sine."""
-    along, across = (40 * (x - 1300) + 9 * (y + 40)) / 41, (40 * (y + 40) - 9 * (x - 1300)) / 41
+    along, across = (40 * (x + 150) + 9 * (y + 40)) / 41, (40 * (y + 40) - 9 * (x + 150)) / 41
     if abs(along) <= 300 and abs(across) <= 200:
-        return 320  # a case
-    if (x - 2250) ** 2 + (y - 120) ** 2 <= 180**2:
-        return 180  # a drum
+        return 400  # a case
+    if (x - 480) ** 2 + (y - 140) ** 2 <= 180**2:
+        return 250  # a drum
     if abs(y) > 400:
         return 60  # the rails
     return 0
 
 
 def belt_points(count):
-    """The belt's x and y, and z up, in counts of ten millimetres; the lidar hangs 1,500 mm above it."""
+    """The belt's x and y, and z up, in counts of ten millimetres. The lidar hangs 1,000 mm above it, and
+    sees more points below itself than far away."""
     for along, across in scattered(count):
-        x, y = 3000 * along, 900 * across - 450
-        yield int16(round(x / 10), round(y / 10), (height_on_belt(x, y) - 1500) // 10)
+        part = 2 * along - 1
+        x, y = 1200 * part * (0.4 + 0.6 * abs(part)), 900 * across - 450
+        yield int16(round(x / 10), round(y / 10), (height_on_belt(x, y) - 1000) // 10)
 
 
 def belt_frames(points_a_frame, frames):
