@@ -191,10 +191,13 @@ fn capture_headers_and_records() {
         for bytes in [&[][..], &[7], &[7, 8]] {
             let file = capture(reading, 2368, bytes);
             let all: Vec<_> = payloads_as(&file, reading, 2368).unwrap().collect();
+            let ranked = payload_as(&file, reading, 2368, 0);
             if bytes.is_empty() {
                 assert!(all.is_empty());
+                assert_eq!(ranked, Ok(None));
             } else {
                 assert_eq!(all, [bytes]);
+                assert_eq!(ranked, Ok(Some(bytes)));
             }
             // The data ends a byte before the record does.
             let cut = &file[..file.len() - 1];
@@ -345,12 +348,6 @@ fn ouster_packets() {
                     assert_eq!(range, 1048.575);
                     assert_eq!(elevation, settings.beam_altitudes[i % beams]);
                 }
-                // Port 0 asks for every port.
-                let any = OusterSettings {
-                    lidar_port: 0,
-                    ..settings.clone()
-                };
-                assert_eq!(read_ouster_as(&file, reading, &any).unwrap(), read);
                 let (mut numbers, mut kinds) = (vec![0.0; 3 * points], vec![0; points]);
                 let laid = read_ouster_into_as(&file, reading, &settings, &mut numbers, &mut kinds);
                 assert_eq!(laid, Ok(points));
@@ -361,6 +358,15 @@ fn ouster_packets() {
                     read_ouster_as(&file, reading, &settings),
                     Err(Error::Refused(Refusal::NoPayload))
                 );
+                // Asked for by its own number, or with every other port.
+                for lidar_port in [port, 0] {
+                    let asked = OusterSettings {
+                        lidar_port,
+                        ..settings.clone()
+                    };
+                    let read = read_ouster_as(&file, reading, &asked).unwrap();
+                    assert_eq!(read.len(), 16 * settings.pixels_per_column);
+                }
             }
         }
     }
