@@ -9,7 +9,7 @@
 #include <string.h>
 #include "lidar.h"
 
-enum { SHOWN = 3 };
+enum { SHOWN = 3, LONGEST = 2147483647 };
 
 struct file {
     uint8_t *data;
@@ -26,16 +26,17 @@ enum kind { KITTI, LVX, LVX2, VELODYNE, OUSTER, KINDS };
 
 static const char *const names[KINDS] = {"kitti", "lvx", "lvx2", "velodyne", "ouster"};
 
-/* Reads the whole file. It has a byte more than the file, since no pointer may be null. */
+/* Reads the whole file, or a byte more than the longest data that a call takes. The pointer is not null
+   even where the file is empty. */
 static struct file load(const char *path) {
     struct file file = {NULL, 0};
     size_t room = 4096, read;
     FILE *in = fopen(path, "rb");
     uint8_t *data = in ? malloc(room) : NULL;
 
-    while (data && (read = fread(data + file.len, 1, room - file.len, in)) > 0) {
+    while (data && file.len <= LONGEST && (read = fread(data + file.len, 1, room - file.len, in)) > 0) {
         file.len += read;
-        if (file.len == room) {
+        if (file.len == room && file.len <= LONGEST) {
             uint8_t *more = realloc(data, room *= 2);
             if (!more)
                 free(data);

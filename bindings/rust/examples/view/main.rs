@@ -8,7 +8,7 @@ mod file;
 mod scene;
 mod svg;
 
-use std::io::Write;
+use std::io::{Read, Write};
 use std::path::{Path, PathBuf};
 use std::process::ExitCode;
 
@@ -67,7 +67,7 @@ fn asked(arguments: impl Iterator<Item = std::ffi::OsString>) -> Result<Asked, S
 
 fn draw(asked: &Asked) -> Result<(), String> {
     let shown = asked.file.display();
-    let data = std::fs::read(&asked.file).map_err(|error| format!("{shown}: {error}"))?;
+    let data = load(&asked.file).map_err(|error| format!("{shown}: {error}"))?;
     let told =
         file::read(&data, &asked.file, asked.name).map_err(|why| format!("{shown}: {why}"))?;
     let scene = scene::Scene::new(&told.points, told.angles, asked.within);
@@ -82,6 +82,15 @@ fn draw(asked: &Asked) -> Result<(), String> {
     }
     eprintln!("{shown}: {}", caption.join("; "));
     Ok(())
+}
+
+/// The file's bytes, or one more than the longest data that is read: a device may have no end.
+fn load(path: &Path) -> std::io::Result<Vec<u8>> {
+    let mut data = Vec::new();
+    std::fs::File::open(path)?
+        .take(1 << 31)
+        .read_to_end(&mut data)?;
+    Ok(data)
 }
 
 /// Writes the picture, unless that is the file that was read.
