@@ -25,7 +25,7 @@ impl Reading {
 ///
 /// It walks to that payload from the start; [`payloads`] goes through all of them once.
 pub fn payload(data: &[u8], port: u16, rank: usize) -> Result<Option<&[u8]>, Refusal> {
-    part(data, ffi::payload_place(data, port, rank))
+    part(data, ffi::payload_place(data, None, port, rank))
 }
 
 /// [`payload`] in a reading that is named.
@@ -45,8 +45,8 @@ pub fn payload_as(
     port: u16,
     rank: usize,
 ) -> Result<Option<&[u8]>, Refusal> {
-    let place = ffi::payload_place_as(data, reading.is_savefile(), port, rank);
-    part(data, place)
+    let savefile = Some(reading.is_savefile());
+    part(data, ffi::payload_place(data, savefile, port, rank))
 }
 
 fn part(data: &[u8], place: (u8, usize, usize)) -> Result<Option<&[u8]>, Refusal> {
@@ -101,12 +101,9 @@ impl<'a> Iterator for Payloads<'a> {
     type Item = &'a [u8];
 
     fn next(&mut self) -> Option<&'a [u8]> {
-        let (data, port, at) = (self.data, self.port, &mut self.at);
-        let (start, len) = match self.reading {
-            Some(reading) => ffi::next_payload_as(data, reading.is_savefile(), port, at),
-            None => ffi::next_payload(data, port, at),
-        }?;
-        Some(&data[start..start + len])
+        let savefile = self.reading.map(Reading::is_savefile);
+        let (start, len) = ffi::next_payload(self.data, savefile, self.port, &mut self.at)?;
+        Some(&self.data[start..start + len])
     }
 }
 

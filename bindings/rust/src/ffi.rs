@@ -209,6 +209,13 @@ pub struct Answer {
     pub frames: usize,
 }
 
+/// The answer of a reader that is given where points and frames go.
+fn answer(call: impl FnOnce(*mut usize, *mut usize) -> u8) -> Answer {
+    let mut answer = Answer::default();
+    answer.number = call(&mut answer.points, &mut answer.frames);
+    answer
+}
+
 type ByPattern = unsafe extern "C" fn(
     *const u8,
     usize,
@@ -220,23 +227,11 @@ type ByPattern = unsafe extern "C" fn(
     *mut usize,
 ) -> u8;
 
-type ByValue = unsafe extern "C" fn(
-    *const u8,
-    usize,
-    *mut f32,
-    usize,
-    *mut u8,
-    usize,
-    *mut usize,
-    *mut usize,
-) -> u8;
-
 /// Calls a reader that lays patterns. A pattern is what an f32 is made of, so a NaN is exact.
 fn by_pattern(call: ByPattern, data: &[u8], numbers: &mut [f32], kinds: &mut [u8]) -> Answer {
-    let mut answer = Answer::default();
     // SAFETY: slices and references, as said above; f32 has the size and alignment of u32, and every
     // pattern is an f32.
-    answer.number = unsafe {
+    answer(|points, frames| unsafe {
         call(
             data.as_ptr(),
             data.len(),
@@ -244,29 +239,10 @@ fn by_pattern(call: ByPattern, data: &[u8], numbers: &mut [f32], kinds: &mut [u8
             numbers.len(),
             kinds.as_mut_ptr(),
             kinds.len(),
-            &mut answer.points,
-            &mut answer.frames,
+            points,
+            frames,
         )
-    };
-    answer
-}
-
-fn by_value(call: ByValue, data: &[u8], numbers: &mut [f32], kinds: &mut [u8]) -> Answer {
-    let mut answer = Answer::default();
-    // SAFETY: slices and references, as said above.
-    answer.number = unsafe {
-        call(
-            data.as_ptr(),
-            data.len(),
-            numbers.as_mut_ptr(),
-            numbers.len(),
-            kinds.as_mut_ptr(),
-            kinds.len(),
-            &mut answer.points,
-            &mut answer.frames,
-        )
-    };
-    answer
+    })
 }
 
 pub fn read_kitti(data: &[u8], numbers: &mut [f32], kinds: &mut [u8]) -> Answer {
@@ -281,36 +257,43 @@ pub fn read_lvx2(data: &[u8], numbers: &mut [f32], kinds: &mut [u8]) -> Answer {
     by_pattern(lidar_read_lvx2_bits, data, numbers, kinds)
 }
 
-pub fn read_velodyne(data: &[u8], numbers: &mut [f32], kinds: &mut [u8]) -> Answer {
-    by_value(lidar_read_velodyne, data, numbers, kinds)
-}
-
-pub fn decode_velodyne_packet(payload: &[u8], numbers: &mut [f32], kinds: &mut [u8]) -> Answer {
-    by_value(lidar_decode_velodyne_packet, payload, numbers, kinds)
-}
-
-pub fn read_velodyne_as(
+/// Without `savefile` the reading is the usual one, as for the other captures below.
+pub fn read_velodyne(
     data: &[u8],
-    savefile: bool,
+    savefile: Option<bool>,
     numbers: &mut [f32],
     kinds: &mut [u8],
 ) -> Answer {
-    let mut answer = Answer::default();
+    let (bytes, bytes_len) = (data.as_ptr(), data.len());
+    let (laid, laid_len) = (numbers.as_mut_ptr(), numbers.len());
+    let (kinds, kinds_len) = (kinds.as_mut_ptr(), kinds.len());
     // SAFETY: slices and references, as said above.
-    answer.number = unsafe {
-        lidar_read_velodyne_as(
-            data.as_ptr(),
-            data.len(),
-            savefile,
+    answer(|points, frames| unsafe {
+        match savefile {
+            Some(savefile) => lidar_read_velodyne_as(
+                bytes, bytes_len, savefile, laid, laid_len, kinds, kinds_len, points, frames,
+            ),
+            None => lidar_read_velodyne(
+                bytes, bytes_len, laid, laid_len, kinds, kinds_len, points, frames,
+            ),
+        }
+    })
+}
+
+pub fn decode_velodyne_packet(payload: &[u8], numbers: &mut [f32], kinds: &mut [u8]) -> Answer {
+    // SAFETY: slices and references, as said above.
+    answer(|points, frames| unsafe {
+        lidar_decode_velodyne_packet(
+            payload.as_ptr(),
+            payload.len(),
             numbers.as_mut_ptr(),
             numbers.len(),
             kinds.as_mut_ptr(),
             kinds.len(),
-            &mut answer.points,
-            &mut answer.frames,
+            points,
+            frames,
         )
-    };
-    answer
+    })
 }
 
 pub fn detect_velodyne_model(factory_byte: u8) -> u8 {
@@ -326,87 +309,55 @@ pub struct Sensor {
     pub lidar_port: u16,
 }
 
-pub fn read_ouster_as(
-    data: &[u8],
-    savefile: bool,
-    sensor: Sensor,
-    beam_altitudes: &[f32],
-    numbers: &mut [f32],
-    kinds: &mut [u8],
-) -> Answer {
-    let mut answer = Answer::default();
-    // SAFETY: slices and references, as said above.
-    answer.number = unsafe {
-        lidar_read_ouster_as(
-            data.as_ptr(),
-            data.len(),
-            savefile,
-            sensor.columns_per_packet,
-            sensor.pixels_per_column,
-            sensor.lidar_port,
-            beam_altitudes.as_ptr(),
-            beam_altitudes.len(),
-            numbers.as_mut_ptr(),
-            numbers.len(),
-            kinds.as_mut_ptr(),
-            kinds.len(),
-            &mut answer.points,
-            &mut answer.frames,
-        )
-    };
-    answer
-}
-
 pub fn read_ouster(
     data: &[u8],
+    savefile: Option<bool>,
     sensor: Sensor,
     beam_altitudes: &[f32],
     numbers: &mut [f32],
     kinds: &mut [u8],
 ) -> Answer {
-    let mut answer = Answer::default();
+    let Sensor {
+        columns_per_packet: columns,
+        pixels_per_column: pixels,
+        lidar_port: port,
+    } = sensor;
+    let (bytes, bytes_len) = (data.as_ptr(), data.len());
+    let (beams, beams_len) = (beam_altitudes.as_ptr(), beam_altitudes.len());
+    let (laid, laid_len) = (numbers.as_mut_ptr(), numbers.len());
+    let (kinds, kinds_len) = (kinds.as_mut_ptr(), kinds.len());
     // SAFETY: slices and references, as said above.
-    answer.number = unsafe {
-        lidar_read_ouster(
-            data.as_ptr(),
-            data.len(),
-            sensor.columns_per_packet,
-            sensor.pixels_per_column,
-            sensor.lidar_port,
-            beam_altitudes.as_ptr(),
-            beam_altitudes.len(),
-            numbers.as_mut_ptr(),
-            numbers.len(),
-            kinds.as_mut_ptr(),
-            kinds.len(),
-            &mut answer.points,
-            &mut answer.frames,
-        )
-    };
-    answer
+    answer(|points, frames| unsafe {
+        match savefile {
+            Some(savefile) => lidar_read_ouster_as(
+                bytes, bytes_len, savefile, columns, pixels, port, beams, beams_len, laid,
+                laid_len, kinds, kinds_len, points, frames,
+            ),
+            None => lidar_read_ouster(
+                bytes, bytes_len, columns, pixels, port, beams, beams_len, laid, laid_len, kinds,
+                kinds_len, points, frames,
+            ),
+        }
+    })
 }
 
 /// The settings of an OS1-64, and its elevations.
 pub fn os1_64() -> (Sensor, [f32; 64]) {
-    let (mut sensor, mut beam_altitudes) = (Sensor::default(), [0.0; 64]);
-    // SAFETY: references, as said above, the last to as many elevations as are written.
-    unsafe {
-        lidar_os1_64(
-            &mut sensor.columns_per_packet,
-            &mut sensor.pixels_per_column,
-            &mut sensor.lidar_port,
-            &mut beam_altitudes,
-        );
-    }
-    (sensor, beam_altitudes)
+    made_ready(lidar_os1_64)
 }
 
 /// The settings of a sensor of 128 beams, and its elevations.
 pub fn os_128() -> (Sensor, [f32; 128]) {
-    let (mut sensor, mut beam_altitudes) = (Sensor::default(), [0.0; 128]);
-    // SAFETY: references, as said above, the last to as many elevations as are written.
+    made_ready(lidar_os_128)
+}
+
+fn made_ready<const BEAMS: usize>(
+    call: unsafe extern "C" fn(*mut usize, *mut usize, *mut u16, *mut [f32; BEAMS]),
+) -> (Sensor, [f32; BEAMS]) {
+    let (mut sensor, mut beam_altitudes) = (Sensor::default(), [0.0; BEAMS]);
+    // SAFETY: references, as said above, the last to as many elevations as the call's type says.
     unsafe {
-        lidar_os_128(
+        call(
             &mut sensor.columns_per_packet,
             &mut sensor.pixels_per_column,
             &mut sensor.lidar_port,
@@ -417,59 +368,44 @@ pub fn os_128() -> (Sensor, [f32; 128]) {
 }
 
 /// A call by rank: the number, and the payload's start and length, 0 where there is none.
-pub fn payload_place_as(data: &[u8], savefile: bool, port: u16, rank: usize) -> (u8, usize, usize) {
+pub fn payload_place(
+    data: &[u8],
+    savefile: Option<bool>,
+    port: u16,
+    rank: usize,
+) -> (u8, usize, usize) {
+    let (bytes, bytes_len) = (data.as_ptr(), data.len());
     let (mut start, mut len) = (0, 0);
     // SAFETY: a slice and references, as said above.
     let number = unsafe {
-        lidar_payload_place_as(
-            data.as_ptr(),
-            data.len(),
-            savefile,
-            port,
-            rank,
-            &mut start,
-            &mut len,
-        )
+        match savefile {
+            Some(savefile) => {
+                lidar_payload_place_as(bytes, bytes_len, savefile, port, rank, &mut start, &mut len)
+            }
+            None => lidar_payload_place(bytes, bytes_len, port, rank, &mut start, &mut len),
+        }
     };
-    (number, start, len)
-}
-
-pub fn payload_place(data: &[u8], port: u16, rank: usize) -> (u8, usize, usize) {
-    let (mut start, mut len) = (0, 0);
-    // SAFETY: a slice and references, as said above.
-    let number =
-        unsafe { lidar_payload_place(data.as_ptr(), data.len(), port, rank, &mut start, &mut len) };
     (number, start, len)
 }
 
 /// The next payload's start and length. `at` is where the walk stands, and moves on.
-pub fn next_payload_as(
+pub fn next_payload(
     data: &[u8],
-    savefile: bool,
+    savefile: Option<bool>,
     port: u16,
     at: &mut usize,
 ) -> Option<(usize, usize)> {
+    let (bytes, bytes_len) = (data.as_ptr(), data.len());
     let (mut start, mut len) = (0, 0);
     // SAFETY: a slice and references, as said above.
     let found = unsafe {
-        lidar_next_payload_as(
-            data.as_ptr(),
-            data.len(),
-            savefile,
-            port,
-            at,
-            &mut start,
-            &mut len,
-        )
+        match savefile {
+            Some(savefile) => {
+                lidar_next_payload_as(bytes, bytes_len, savefile, port, at, &mut start, &mut len)
+            }
+            None => lidar_next_payload(bytes, bytes_len, port, at, &mut start, &mut len),
+        }
     };
-    found.then_some((start, len))
-}
-
-pub fn next_payload(data: &[u8], port: u16, at: &mut usize) -> Option<(usize, usize)> {
-    let (mut start, mut len) = (0, 0);
-    // SAFETY: a slice and references, as said above.
-    let found =
-        unsafe { lidar_next_payload(data.as_ptr(), data.len(), port, at, &mut start, &mut len) };
     found.then_some((start, len))
 }
 

@@ -1,7 +1,7 @@
 //! Ouster captures.
 
 use crate::capture::Reading;
-use crate::ffi::{self, Sensor};
+use crate::ffi::{self, Answer, Sensor};
 use crate::point::{collect, told};
 use crate::{Error, Point, Refusal};
 
@@ -40,12 +40,20 @@ impl OusterSettings {
         }
     }
 
-    fn sensor(&self) -> Sensor {
-        Sensor {
+    fn read(
+        &self,
+        data: &[u8],
+        reading: Option<Reading>,
+        numbers: &mut [f32],
+        kinds: &mut [u8],
+    ) -> Answer {
+        let sensor = Sensor {
             columns_per_packet: self.columns_per_packet,
             pixels_per_column: self.pixels_per_column,
             lidar_port: self.lidar_port,
-        }
+        };
+        let savefile = reading.map(Reading::is_savefile);
+        ffi::read_ouster(data, savefile, sensor, &self.beam_altitudes, numbers, kinds)
     }
 }
 
@@ -61,16 +69,7 @@ impl Default for OusterSettings {
 ///
 /// A capture of ordinary tools wants [`Reading::Savefile`]: see [`read_ouster_as`].
 pub fn read_ouster(data: &[u8], settings: &OusterSettings) -> Result<Vec<Point>, Error> {
-    Ok(collect(|numbers, kinds| {
-        ffi::read_ouster(
-            data,
-            settings.sensor(),
-            &settings.beam_altitudes,
-            numbers,
-            kinds,
-        )
-    })?
-    .0)
+    Ok(collect(|numbers, kinds| settings.read(data, None, numbers, kinds))?.0)
 }
 
 /// [`read_ouster`] in a reading that is named.
@@ -88,18 +87,7 @@ pub fn read_ouster_as(
     reading: Reading,
     settings: &OusterSettings,
 ) -> Result<Vec<Point>, Error> {
-    let savefile = reading.is_savefile();
-    Ok(collect(|numbers, kinds| {
-        ffi::read_ouster_as(
-            data,
-            savefile,
-            settings.sensor(),
-            &settings.beam_altitudes,
-            numbers,
-            kinds,
-        )
-    })?
-    .0)
+    Ok(collect(|numbers, kinds| settings.read(data, Some(reading), numbers, kinds))?.0)
 }
 
 /// [`read_ouster`] into lent slices, three numbers and one kind a point. Tells how many points there are;
@@ -110,14 +98,7 @@ pub fn read_ouster_into(
     numbers: &mut [f32],
     kinds: &mut [u8],
 ) -> Result<usize, Refusal> {
-    let answer = ffi::read_ouster(
-        data,
-        settings.sensor(),
-        &settings.beam_altitudes,
-        numbers,
-        kinds,
-    );
-    Ok(told(answer)?.points)
+    Ok(told(settings.read(data, None, numbers, kinds))?.points)
 }
 
 /// [`read_ouster_into`] in a reading that is named.
@@ -128,13 +109,5 @@ pub fn read_ouster_into_as(
     numbers: &mut [f32],
     kinds: &mut [u8],
 ) -> Result<usize, Refusal> {
-    let answer = ffi::read_ouster_as(
-        data,
-        reading.is_savefile(),
-        settings.sensor(),
-        &settings.beam_altitudes,
-        numbers,
-        kinds,
-    );
-    Ok(told(answer)?.points)
+    Ok(told(settings.read(data, Some(reading), numbers, kinds))?.points)
 }

@@ -9,7 +9,7 @@ use crate::{ffi, Error, Point, Refusal};
 ///
 /// A capture of ordinary tools wants [`Reading::Savefile`]: see [`read_velodyne_as`].
 pub fn read_velodyne(data: &[u8]) -> Result<Vec<Point>, Error> {
-    Ok(collect(|numbers, kinds| ffi::read_velodyne(data, numbers, kinds))?.0)
+    Ok(collect(|numbers, kinds| ffi::read_velodyne(data, None, numbers, kinds))?.0)
 }
 
 /// [`read_velodyne`] in a reading that is named.
@@ -24,8 +24,8 @@ pub fn read_velodyne(data: &[u8]) -> Result<Vec<Point>, Error> {
 /// # Ok::<(), Box<dyn std::error::Error>>(())
 /// ```
 pub fn read_velodyne_as(data: &[u8], reading: Reading) -> Result<Vec<Point>, Error> {
-    let savefile = reading.is_savefile();
-    Ok(collect(|numbers, kinds| ffi::read_velodyne_as(data, savefile, numbers, kinds))?.0)
+    let savefile = Some(reading.is_savefile());
+    Ok(collect(|numbers, kinds| ffi::read_velodyne(data, savefile, numbers, kinds))?.0)
 }
 
 /// [`read_velodyne`] into lent slices, three numbers and one kind a point. Tells how many points there
@@ -35,7 +35,7 @@ pub fn read_velodyne_into(
     numbers: &mut [f32],
     kinds: &mut [u8],
 ) -> Result<usize, Refusal> {
-    Ok(told(ffi::read_velodyne(data, numbers, kinds))?.points)
+    Ok(told(ffi::read_velodyne(data, None, numbers, kinds))?.points)
 }
 
 /// [`read_velodyne_into`] in a reading that is named.
@@ -45,8 +45,8 @@ pub fn read_velodyne_into_as(
     numbers: &mut [f32],
     kinds: &mut [u8],
 ) -> Result<usize, Refusal> {
-    let savefile = reading.is_savefile();
-    Ok(told(ffi::read_velodyne_as(data, savefile, numbers, kinds))?.points)
+    let savefile = Some(reading.is_savefile());
+    Ok(told(ffi::read_velodyne(data, savefile, numbers, kinds))?.points)
 }
 
 /// Reads one Velodyne packet. Below 1,206 bytes it has no point, and it has at most 384.
