@@ -41,7 +41,7 @@ module _ (reading : Reading) (port : ℕ) (bytes : List ℕ) where
   toCome at = accepted (placesFrom (cursorAt at) bytes)
 
   pub all-to-come : toCome 0 ≡ accepted (payloads reading port bytes)
-  unfolding payloads
+  unfolding placesFrom payloads
   all-to-come = refl
 
   pub takes-none : (at after start len : ℕ) → tellNext reading port bytes at ≡ nextTold false after start len → toCome at ≡ []

@@ -46,19 +46,10 @@ unfoldable pub foundFrom : Reading → Bool → ℕ → List ℕ → ℕ → Lis
 unfolding foundIn recordsFrom flatMap
 foundFrom reading big port bytes at = flatMap (foundIn reading port bytes) (recordsFrom (length bytes) (orderOf big) bytes at)
 
--- The places of the payloads from a cursor on.
-unfoldable pub placesFrom : Cursor → List ℕ → List Place
-unfolding foundFrom
-placesFrom cursor bytes = map (λ (f : Found). f .place) (foundFrom (cursor .reading) (cursor .«big_endian») (cursor .port) bytes (cursor .at))
-
--- The cursor after the file header.
-abbrev pub startCursor : Reading → ℕ → List ℕ → Cursor
-startCursor reading port bytes = record { at = 24; port = port; reading = reading; «big_endian» = bigEndian reading bytes }
-
 -- The payloads on a port, of which 0 is every one: what an accepted capture means.
 unfoldable pub payloads : Reading → ℕ → List ℕ → List Place
-unfolding placesFrom
-payloads reading port bytes = placesFrom (startCursor reading port bytes) bytes
+unfolding foundFrom
+payloads reading port bytes = map (λ (f : Found). f .place) (foundFrom reading (bigEndian reading bytes) port bytes 24)
 
 -- No place: a payload never starts at 0.
 abbrev pub nowhere : Place
@@ -78,6 +69,15 @@ abbrev pub PartAt : ℕ → ℕ × ℕ → ℕ × ℕ → Type 0
 PartAt start whole part = (part .0 ≡ whole .0) × (part .1 ≡ start + whole .1)
 
 -- ---- the walk by steps
+
+-- The cursor after the file header.
+abbrev pub startCursor : Reading → ℕ → List ℕ → Cursor
+startCursor reading port bytes = record { at = 24; port = port; reading = reading; «big_endian» = bigEndian reading bytes }
+
+-- The places of the payloads from a cursor on.
+unfoldable pub placesFrom : Cursor → List ℕ → List Place
+unfolding foundFrom
+placesFrom cursor bytes = map (λ (f : Found). f .place) (foundFrom (cursor .reading) (cursor .«big_endian») (cursor .port) bytes (cursor .at))
 
 -- Opening a capture gives a number and, where that is 0, the cursor after the file header.
 unfoldable pub opening : Reading → ℕ → List ℕ → ℕ × List Cursor

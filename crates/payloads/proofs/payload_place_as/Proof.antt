@@ -2,7 +2,7 @@
 use mathlib.Core.Path.{_≡_, sym, ap, _∙_}
 use lib.ListN.{getD}
 use Rattle.capture.specs.declared.walk.Opened.{Opened}
-use Rattle.capture.specs.Payloads.{openedAs, payloads, nowhere}
+use Rattle.capture.specs.Payloads.{openedAs, placesFrom, payloads, nowhere}
 use Rattle.capture.proofs.Opening.{walks, refuses}
 use Rattle.capture.proofs.Steps.{accepted, refused}
 use borrow.Author.Needs.{needs}
@@ -31,7 +31,7 @@ place-from-requires : tie.Need-place-from-requires
 place-from-requires c κs = search needs
 
 returns-2 : tie.Need-returns-2
-unfolding payloads
+unfolding placesFrom payloads
 returns-2 c =
     let a = c .before .before .before .before .before .before .args in
     let yes = walks (a .reading) (a .port) (a .«data» .now) _ (ap openedAs (sym (c .before .before .cursor .given .1)) ∙ c .before .before .before .before .open-as .ensures) in
