@@ -26,8 +26,13 @@ const ANY_CASE: u64 = u64::MAX;
 /// As the program writes them, by the number that the C form has for each.
 const ENCODINGS: [&str; 4] = ["millimetres", "ten millimetres", "spherical", "float"];
 
-/// What the calls find in slices that they leave alone.
+/// What the calls find in slices that they leave alone, the numbers by value or by pattern.
 const KIND_BEFORE: u8 = 9;
+const VALUE_BEFORE: f32 = 7.0;
+const PATTERN_BEFORE: u32 = 7;
+
+/// In the place of a reading: the call that names none, which gets the Rust's.
+const NOT_NAMED: u64 = 2;
 
 /// A line of the list.
 struct Case<'a> {
@@ -273,7 +278,7 @@ impl Case<'_> {
 
     fn reading(&self, k: usize) -> Reading {
         match self.number(k) {
-            0 => Reading::Rust,
+            0 | NOT_NAMED => Reading::Rust,
             _ => Reading::Savefile,
         }
     }
@@ -317,7 +322,12 @@ impl Case<'_> {
         for k in 0..room {
             line += &format!(" {}", kinds.get(k).unwrap_or(&KIND_BEFORE));
         }
-        for (k, &number) in bits.iter().enumerate() {
+        let before = match by_value {
+            true => VALUE_BEFORE.to_bits(),
+            false => PATTERN_BEFORE,
+        };
+        for k in 0..3 * room {
+            let number = bits.get(k).copied().unwrap_or(before);
             line += if k % 3 == 0 { " |" } else { "" };
             line += &match by_value && f32::from_bits(number).is_nan() {
                 true => " nan".to_string(),

@@ -18,6 +18,9 @@ const OS1_64: u8 = 5;
 
 const OS_128: u8 = 6;
 
+// In the place of a reading: the call that names none.
+const NOT_NAMED: u64 = 2;
+
 pub(crate) fn run(name: &[u8], n: &[u64; 8], data: &[u8]) -> bool {
     if check::same(name, b"payload") {
         payload(n, data);
@@ -59,9 +62,17 @@ fn ouster_of(name: &[u8]) -> u8 {
 }
 
 fn payload(n: &[u64; 8], data: &[u8]) {
-    let reading = reading_of(n[1]);
     let port = words::port(n[2]);
     let rank = words::index(n[3]);
+    if n[1] == NOT_NAMED {
+        let place = lidar::payload_place(data, port, rank);
+        show::payload(place.start, lidar::payload(data, port, rank));
+    } else {
+        payload_as(reading_of(n[1]), port, rank, data);
+    }
+}
+
+fn payload_as(reading: Reading, port: u16, rank: usize, data: &[u8]) {
     let place = lidar::payload_place_as(data, reading, port, rank);
     show::payload(place.start, lidar::payload_as(data, reading, port, rank));
 }
@@ -86,7 +97,7 @@ fn read_in_room(
         if count <= numbers.len() {
             let answer = read_into(reader, n, data, &mut numbers[0..count], &mut kinds[0..room]);
             show::answer(answer, &kinds[0..room]);
-            show::values(answer, &numbers[0..count]);
+            show::values(&numbers[0..count]);
         }
     }
 }
@@ -104,43 +115,32 @@ fn read_into(
     if reader == PACKET {
         return lidar::decode_velodyne_packet(data, numbers, kinds);
     }
-    let reading = reading_of(n[2]);
     if reader == VELODYNE {
-        return lidar::read_velodyne_as(data, reading, numbers, kinds);
+        return read_velodyne(n[2], data, numbers, kinds);
     }
-    read_ouster(reader, n, data, reading, numbers, kinds)
-}
-
-fn read_ouster(
-    reader: u8,
-    n: &[u64; 8],
-    data: &[u8],
-    reading: Reading,
-    numbers: &mut [f32],
-    kinds: &mut [u8],
-) -> Answer {
     if reader == OS1_64 {
-        return read_os1_64(data, reading, numbers, kinds);
+        return read_os1_64(n[2], data, numbers, kinds);
     }
     if reader == OS_128 {
-        return read_os_128(data, reading, numbers, kinds);
+        return read_os_128(n[2], data, numbers, kinds);
     }
     let altitudes = halves();
-    lidar::read_ouster_as(
-        data,
-        reading,
-        settings_of(n),
-        lent(&altitudes, words::index(n[6])),
-        numbers,
-        kinds,
-    )
+    let elevations = lent(&altitudes, words::index(n[6]));
+    read_ouster(n[2], data, settings_of(n), elevations, numbers, kinds)
 }
 
-fn read_os1_64(data: &[u8], reading: Reading, numbers: &mut [f32], kinds: &mut [u8]) -> Answer {
+fn read_velodyne(reading: u64, data: &[u8], numbers: &mut [f32], kinds: &mut [u8]) -> Answer {
+    if reading == NOT_NAMED {
+        return lidar::read_velodyne(data, numbers, kinds);
+    }
+    lidar::read_velodyne_as(data, reading_of(reading), numbers, kinds)
+}
+
+fn read_os1_64(reading: u64, data: &[u8], numbers: &mut [f32], kinds: &mut [u8]) -> Answer {
     let altitudes = OusterSettings::os1_64_altitudes();
-    lidar::read_ouster_as(
-        data,
+    read_ouster(
         reading,
+        data,
         OusterSettings::os1_64(),
         &altitudes,
         numbers,
@@ -148,13 +148,34 @@ fn read_os1_64(data: &[u8], reading: Reading, numbers: &mut [f32], kinds: &mut [
     )
 }
 
-fn read_os_128(data: &[u8], reading: Reading, numbers: &mut [f32], kinds: &mut [u8]) -> Answer {
+fn read_os_128(reading: u64, data: &[u8], numbers: &mut [f32], kinds: &mut [u8]) -> Answer {
     let altitudes = OusterSettings::os_128_altitudes();
-    lidar::read_ouster_as(
-        data,
+    read_ouster(
         reading,
+        data,
         OusterSettings::os_128(),
         &altitudes,
+        numbers,
+        kinds,
+    )
+}
+
+fn read_ouster(
+    reading: u64,
+    data: &[u8],
+    settings: OusterSettings,
+    altitudes: &[f32],
+    numbers: &mut [f32],
+    kinds: &mut [u8],
+) -> Answer {
+    if reading == NOT_NAMED {
+        return lidar::read_ouster(data, settings, altitudes, numbers, kinds);
+    }
+    lidar::read_ouster_as(
+        data,
+        reading_of(reading),
+        settings,
+        altitudes,
         numbers,
         kinds,
     )

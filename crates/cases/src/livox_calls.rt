@@ -65,7 +65,7 @@ fn read_in_room(
         if count <= bits.len() {
             let answer = read_into(reader, data, &mut bits[0..count], &mut kinds[0..room]);
             show::answer(answer, &kinds[0..room]);
-            show::patterns(answer, &bits[0..count]);
+            show::patterns(&bits[0..count]);
         }
     }
 }

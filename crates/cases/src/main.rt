@@ -17,8 +17,9 @@
 //     spherical, float                         count, datum, pulse length
 //     place-lvx, place-lvx2                    rank, count, datum, pulse length
 //
-// The room is in points, at most 8. A reading is 0 for the Rust's and 1 for the savefile's. Every
-// elevation that is lent is half its channel's number.
+// The room is in points, at most 8. A reading is 0 for the Rust's and 1 for the savefile's, and 2 has
+// the call that names none. Every elevation that is lent is half its channel's number. A reader's line
+// shows all of both slices as they are left: the kinds were 9 before, and the numbers 7.
 
 mod capture_calls;
 mod livox_calls;

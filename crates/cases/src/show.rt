@@ -17,32 +17,26 @@ pub(crate) fn answer(answer: Answer, kinds: &[u8]) {
     }
 }
 
-// Numbers of f32, by their patterns.
-pub(crate) fn values(answer: Answer, numbers: &[f32]) {
+// Numbers of f32 as they are left, by their patterns.
+pub(crate) fn values(numbers: &[f32]) {
     for i in 0..numbers.len() {
-        if is_told(answer, i) {
-            write_value(numbers[i]);
-        }
+        write_bar(i);
+        write_value(numbers[i]);
     }
 }
 
-pub(crate) fn patterns(answer: Answer, bits: &[u32]) {
+pub(crate) fn patterns(bits: &[u32]) {
     for i in 0..bits.len() {
-        if is_told(answer, i) {
-            write_pattern(bits[i]);
-        }
+        write_bar(i);
+        write_pattern(bits[i]);
     }
 }
 
-// Whether the number at i is one of a point told; a bar stands before each point.
-fn is_told(answer: Answer, i: usize) -> bool {
-    if answer.number() != 0 || answer.points() <= i / 3 {
-        return false;
-    }
+// A bar stands before the three numbers of each point.
+fn write_bar(i: usize) {
     if i % 3 == 0 {
         write(b" |");
     }
-    true
 }
 
 // A stored reading: its type and its three numbers as the file has them, each as 32 bits.

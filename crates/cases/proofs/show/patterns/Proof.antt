@@ -5,16 +5,16 @@ use Rattle.cases.proofs.show.patterns.Statement.{statement}
 use Rattle.cases.proofs.show.patterns.Tie as tie
 
 abbrev Inv-loop : tie.InvT-loop
-Inv-loop answer bits i₀ i-end i = Unit
+Inv-loop bits i₀ i-end i = Unit
 
 abbrev μ-loop : tie.MeasureT-loop
-μ-loop answer bits i₀ i-end i = i-end - i
+μ-loop bits i₀ i-end i = i-end - i
 
 loop-holds : tie.Need-loop-holds Inv-loop μ-loop
 loop-holds c = search needs
 
-is-told-requires : tie.Need-is-told-requires Inv-loop μ-loop
-is-told-requires c κs = search needs
+write-bar-requires : tie.Need-write-bar-requires Inv-loop μ-loop
+write-bar-requires c κs = search needs
 
 mul-write-pattern : tie.Need-mul-write-pattern Inv-loop μ-loop
 mul-write-pattern c = search needs
@@ -44,7 +44,7 @@ patterns-spec =
     Inv-loop
     μ-loop
     loop-holds
-    is-told-requires
+    write-bar-requires
     mul-write-pattern
     shared-slice-read-write-pattern
     write-pattern-requires

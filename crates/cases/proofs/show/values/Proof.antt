@@ -5,16 +5,16 @@ use Rattle.cases.proofs.show.values.Statement.{statement}
 use Rattle.cases.proofs.show.values.Tie as tie
 
 abbrev Inv-loop : tie.InvT-loop
-Inv-loop answer numbers i₀ i-end i = Unit
+Inv-loop numbers i₀ i-end i = Unit
 
 abbrev μ-loop : tie.MeasureT-loop
-μ-loop answer numbers i₀ i-end i = i-end - i
+μ-loop numbers i₀ i-end i = i-end - i
 
 loop-holds : tie.Need-loop-holds Inv-loop μ-loop
 loop-holds c = search needs
 
-is-told-requires : tie.Need-is-told-requires Inv-loop μ-loop
-is-told-requires c κs = search needs
+write-bar-requires : tie.Need-write-bar-requires Inv-loop μ-loop
+write-bar-requires c κs = search needs
 
 mul-write-value : tie.Need-mul-write-value Inv-loop μ-loop
 mul-write-value c = search needs
@@ -44,7 +44,7 @@ values-spec =
     Inv-loop
     μ-loop
     loop-holds
-    is-told-requires
+    write-bar-requires
     mul-write-value
     shared-slice-read-write-value
     write-value-requires
