@@ -1,19 +1,23 @@
-//! The inputs, of 64 MB each, made on the spot.
+//! The inputs, each of the size that is asked or a little less, made on the spot.
 
-pub const SIZE: usize = 64_000_000;
+/// The magic by which the Rust takes little-endian lengths for what they are.
+pub const FOR_RUST: [u8; 4] = [0xa1, 0xb2, 0xc3, 0xd4];
+
+/// The magic by which a savefile has little-endian lengths.
+pub const SAVEFILE: [u8; 4] = [0xd4, 0xc3, 0xb2, 0xa1];
 
 /// A capture of datagrams to a port, with little-endian lengths. Each payload is made from its number.
-pub fn capture(magic: [u8; 4], port: u16, mut payload: impl FnMut(u32) -> Vec<u8>) -> Vec<u8> {
-    let mut data = Vec::with_capacity(SIZE);
+pub fn capture(size: usize, port: u16, mut payload: impl FnMut(u32) -> Vec<u8>) -> Vec<u8> {
+    let mut data = Vec::with_capacity(size);
     // Version 2.4, no zone, the longest record, Ethernet.
-    data.extend(magic);
+    data.extend(FOR_RUST);
     data.extend([
         2, 0, 4, 0, 0, 0, 0, 0, 0, 0, 0, 0, 0xff, 0xff, 0, 0, 1, 0, 0, 0,
     ]);
     for number in 1.. {
         let payload = payload(number);
         let length = 42 + payload.len();
-        if data.len() + 16 + length > SIZE {
+        if data.len() + 16 + length > size {
             break;
         }
         data.extend(number.to_le_bytes());
@@ -31,6 +35,13 @@ pub fn capture(magic: [u8; 4], port: u16, mut payload: impl FnMut(u32) -> Vec<u8
         data.extend(payload);
     }
     data
+}
+
+/// The same capture for the savefile reading.
+pub fn as_savefile(capture: &[u8]) -> Vec<u8> {
+    let mut savefile = capture.to_vec();
+    savefile[..4].copy_from_slice(&SAVEFILE);
+    savefile
 }
 
 /// splitmix64
@@ -89,35 +100,43 @@ pub fn ouster_packet(random: &mut Random, number: u32, beams: usize) -> Vec<u8> 
     packet
 }
 
+/// KITTI: four floats a point, none of them a NaN.
+pub fn kitti(random: &mut Random, size: usize) -> Vec<u8> {
+    let coordinate = |bits: u64| (bits % 200_000) as f32 / 1000.0 - 100.0;
+    let floats = (0..size / 16 * 4).map(|_| coordinate(random.next()));
+    floats.flat_map(f32::to_le_bytes).collect()
+}
+
 /// LVX: frames of 100 packages, each with 96 points of one type.
-pub fn lvx(random: &mut Random, data_type: u8, size: usize) -> Vec<u8> {
+pub fn lvx(random: &mut Random, size: usize, data_type: u8, point: usize) -> Vec<u8> {
     let mut data = b"livox_tech".to_vec();
     data.resize(20, 0);
     data.extend(0xAC0E_A767u32.to_le_bytes());
     data.extend([50, 0, 0, 0, 1]);
     data.resize(29 + 59, 0);
-    frames(random, data, 27, 96 * size, |header| {
+    frames(random, size, data, 27, 96 * point, |header| {
         header[10] = data_type;
-        header[21..23].copy_from_slice(&(96 * size as u16).to_le_bytes());
+        header[21..23].copy_from_slice(&(96 * point as u16).to_le_bytes());
     })
 }
 
 /// LVX2, in the same way.
-pub fn lvx2(random: &mut Random, data_type: u8, size: usize) -> Vec<u8> {
+pub fn lvx2(random: &mut Random, size: usize, data_type: u8, point: usize) -> Vec<u8> {
     let mut data = 0x2020_0903u32.to_le_bytes().to_vec();
     data.extend([2, 0, 0, 0]);
     data.extend(28u32.to_le_bytes());
     data.extend([0; 8]);
     data.extend([50, 0, 0, 0, 1, 0, 0, 0]);
     data.resize(28 + 41, 0);
-    frames(random, data, 11, 96 * size, |header| {
+    frames(random, size, data, 11, 96 * point, |header| {
         header[6] = data_type;
-        header[7..11].copy_from_slice(&(96 * size as u32).to_le_bytes());
+        header[7..11].copy_from_slice(&(96 * point as u32).to_le_bytes());
     })
 }
 
 fn frames(
     random: &mut Random,
+    size: usize,
     mut data: Vec<u8>,
     header: usize,
     body: usize,
@@ -125,7 +144,7 @@ fn frames(
 ) -> Vec<u8> {
     let base = data.len();
     let frame = 24 + 100 * (header + body);
-    while data.len() + frame <= SIZE {
+    while data.len() + frame <= size {
         let place = data.len() - base;
         data.extend((place as u64).to_le_bytes());
         data.extend(((place + frame) as u64).to_le_bytes());

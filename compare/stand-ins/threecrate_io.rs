@@ -74,5 +74,25 @@ pub mod frames {
     }
 }
 
+/// A vector of points that is used again, so that its pages are there. `bench/run` has one variant of the
+/// original take it.
+pub mod kept {
+    use std::cell::RefCell;
+    use threecrate_core::Point3f;
+
+    thread_local! {
+        static POINTS: RefCell<Vec<Point3f>> = const { RefCell::new(Vec::new()) };
+    }
+
+    pub fn take() -> Vec<Point3f> {
+        POINTS.take()
+    }
+
+    pub fn give_back(mut points: Vec<Point3f>) {
+        points.clear();
+        POINTS.replace(points);
+    }
+}
+
 // The original, which the build puts beside this file. It is no part of the repository.
 pub mod lidar;

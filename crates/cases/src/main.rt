@@ -27,14 +27,23 @@ mod placing_calls;
 mod show;
 mod words;
 
+use input::Ended;
 use libc::STDIN_FILENO;
 ghost use mathlib.Core.Path.{_≡_};
 ghost use lib.ListN.{length};
 
 fn main() {
     let mut space = zeros();
-    let n = io::read_full(STDIN_FILENO, &mut space);
-    run(&space[..n]);
+    let input = input::read_whole(STDIN_FILENO, &mut space);
+    let len = input.len;
+    let ended = input.ended;
+    match ended {
+        Ended::Whole => run(&space[..len]),
+        Ended::TooLong => {
+            show::write(b"too long\n");
+        }
+        Ended::Failed => os::fail(b"cases: standard input"),
+    }
 }
 
 // As `io::large_buffer`, for a list of this length.
@@ -44,24 +53,29 @@ fn zeros() -> [u8; 262144]
     [0; 262144]
 }
 
+// Goes on while what is told can be written.
 fn run(text: &[u8]) {
     let mut at: usize = 0;
     while at < text.len() {
         let end = bytes::scan::find(text, at, text.len(), b'\n');
-        case(&text[at..end]);
+        if !case(&text[at..end]) {
+            return;
+        }
         at = end + 1;
     }
 }
 
-fn case(line: &[u8]) {
+fn case(line: &[u8]) -> bool {
     let colon = bytes::scan::find(line, 0, line.len(), b':');
-    show::write(&line[0..colon]);
+    if !show::write(&line[0..colon]) {
+        return false;
+    }
     show::write(b":");
     if line.len() - colon < 2 {
-        return;
+        return true;
     }
     call(&line[colon + 2..line.len()]);
-    show::write(b"\n");
+    show::write(b"\n")
 }
 
 fn call(text: &[u8]) {

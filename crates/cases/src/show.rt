@@ -89,7 +89,7 @@ pub(crate) fn payload(start: usize, payload: &[u8]) {
     write_number(payload.len() as u64);
     write(b" ");
     for i in 0..payload.len() {
-        io::print_hex(STDOUT_FILENO, small(payload[i]), 2);
+        told(io::print_hex(STDOUT_FILENO, small(payload[i]), 2));
     }
 }
 
@@ -105,7 +105,7 @@ fn write_three(x: u32, y: u32, z: u32) {
 
 fn write_pattern(bits: u32) {
     write(b" ");
-    io::print_hex(STDOUT_FILENO, wide(bits), 8);
+    told(io::print_hex(STDOUT_FILENO, wide(bits), 8));
 }
 
 // `f32::to_bits` is undefined at a NaN.
@@ -130,13 +130,21 @@ fn widen(n: i16) -> i32 {
     n as i32
 }
 
-pub(crate) fn write(text: &[u8]) {
-    io::write_all(STDOUT_FILENO, text);
+pub(crate) fn write(text: &[u8]) -> bool {
+    told(io::write_all(STDOUT_FILENO, text))
 }
 
 fn write_number(n: u64) {
     write(b" ");
-    io::print_decimal(STDOUT_FILENO, n);
+    told(io::print_decimal(STDOUT_FILENO, n));
+}
+
+// Where a write failed, standard error says why, since a program has no exit status of its own.
+fn told(written: bool) -> bool {
+    if !written {
+        os::fail(b"cases: standard output");
+    }
+    written
 }
 
 fn wide(x: u32) -> u64 {

@@ -1,6 +1,7 @@
 // Lists the points of a Livox file from standard input: LVX by its ten bytes, else LVX2.
 
 use answers::Answer;
+use input::Ended;
 use libc::STDIN_FILENO;
 use libc::STDOUT_FILENO;
 use livox_form::Form;
@@ -12,15 +13,16 @@ ghost use Rattle.livox_file.specs.Livox.{readLivoxBits};
 
 fn main() {
     let mut space = io::large_buffer();
-    let n = io::read_full(STDIN_FILENO, &mut space);
-    if n == 65536 {
-        let mut more = [0u8; 1];
-        if 0 < io::read_full(STDIN_FILENO, &mut more) {
+    let input = input::read_whole(STDIN_FILENO, &mut space);
+    let len = input.len;
+    let ended = input.ended;
+    match ended {
+        Ended::Whole => list(&space[..len]),
+        Ended::TooLong => {
             write(b"too long\n");
-            return;
         }
+        Ended::Failed => os::fail(b"lister: standard input"),
     }
-    list(&space[..n]);
 }
 
 fn list(data: &[u8]) {
@@ -31,8 +33,9 @@ fn list(data: &[u8]) {
     match answer {
         Answer::Read { points, frames } => {
             let n = head_lines::head_line(points, frames, &mut line);
-            write(&line[..n]);
-            list_points(points, &bits, &kinds);
+            if write(&line[..n]) {
+                list_points(points, &bits, &kinds);
+            }
         }
         Answer::Refused(refusal) => {
             let n = head_lines::refusal_line(refusal, &mut line);
@@ -58,10 +61,18 @@ fn list_points(points: usize, bits: &[u32; 12288], kinds: &[u8; 4096])
     for k in 0..points {
         let at = k * 3;
         let line = point_lines::point_line(kinds[k], bits[at], bits[at + 1], bits[at + 2]);
-        write(&line);
+        if !write(&line) {
+            return;
+        }
     }
 }
 
-fn write(text: &[u8]) {
-    io::write_all(STDOUT_FILENO, text);
+// Whether all of the text was written. If not, standard error says why, since a program has no exit
+// status of its own.
+fn write(text: &[u8]) -> bool {
+    if io::write_all(STDOUT_FILENO, text) {
+        return true;
+    }
+    os::fail(b"lister: standard output");
+    false
 }

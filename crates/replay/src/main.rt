@@ -4,42 +4,67 @@ use capture::Cursor;
 use capture::Opened;
 use capture::Reading;
 use capture::Step;
+use input::Ended;
 use libc::STDOUT_FILENO;
 
 const VELODYNE_DATA_PORT: u16 = 2368;
 
+// Goes on while what is shown can be written.
 fn main() {
     let count = os::arg_count();
     for i in 1..count {
-        replay_argument(i);
+        if !replay_argument(i) {
+            return;
+        }
     }
 }
 
-fn replay_argument(i: usize) {
+fn replay_argument(i: usize) -> bool {
     let mut name = [0u8; 64];
     let n = os::arg(i, &mut name);
-    replay(&name[..n]);
+    if os::errno() != 0 {
+        os::fail(b"replay: an argument");
+        return true;
+    }
+    replay(&name[..n])
 }
 
-fn replay(name: &[u8]) {
+fn replay(name: &[u8]) -> bool {
     let file = os::open_read(name);
     if file < 0 {
         os::fail(name);
-        return;
+        return true;
     }
     let mut space = io::large_buffer();
-    let n = io::read_full(file, &mut space);
-    libc::close(file);
-    show(name, &space[..n]);
+    let input = input::read_whole(file, &mut space);
+    let len = input.len;
+    let ended = input.ended;
+    match ended {
+        Ended::Whole => {
+            libc::close(file);
+            show(name, &space[..len])
+        }
+        Ended::TooLong => {
+            libc::close(file);
+            write(name) && write(b" too long\n")
+        }
+        Ended::Failed => {
+            os::fail(name);
+            libc::close(file);
+            true
+        }
+    }
 }
 
-fn show(name: &[u8], data: &[u8]) {
-    write(name);
+fn show(name: &[u8], data: &[u8]) -> bool {
+    if !write(name) {
+        return false;
+    }
     match capture::open_as(data, Reading::Savefile, 0) {
         Opened::Refused(refusal) => {
             write(b" refused");
             write_number(refusal.number() as usize);
-            write(b"\n");
+            write(b"\n")
         }
         Opened::Walk(cursor) => {
             write(b" payloads");
@@ -51,6 +76,7 @@ fn show(name: &[u8], data: &[u8]) {
             write_number(count(data, Reading::Rust, 0));
             write(b"\n");
             show_payloads(name, data, cursor);
+            true
         }
     }
 }
@@ -105,17 +131,25 @@ fn show_rank(data: &[u8], rank: usize) {
     write(b"\n");
 }
 
-fn write(text: &[u8]) {
-    io::write_all(STDOUT_FILENO, text);
+fn write(text: &[u8]) -> bool {
+    told(io::write_all(STDOUT_FILENO, text))
 }
 
 fn write_number(n: usize) {
     write(b" ");
-    io::print_decimal(STDOUT_FILENO, n as u64);
+    told(io::print_decimal(STDOUT_FILENO, n as u64));
 }
 
 fn write_hex(bytes: &[u8]) {
     for i in 0..bytes.len() {
-        io::print_hex(STDOUT_FILENO, bytes[i] as u64, 2);
+        told(io::print_hex(STDOUT_FILENO, bytes[i] as u64, 2));
     }
+}
+
+// Where a write failed, standard error says why, since a program has no exit status of its own.
+fn told(written: bool) -> bool {
+    if !written {
+        os::fail(b"replay: standard output");
+    }
+    written
 }

@@ -29,6 +29,9 @@ part-case-end c = search needs
 case-requires : tie.Need-case-requires Inv-loop μ-loop
 case-requires c κs = search needs
 
+returns : tie.Need-returns Inv-loop μ-loop
+returns c = search needs
+
 add-at : tie.Need-add-at Inv-loop μ-loop
 add-at c = search needs
 
@@ -38,8 +41,8 @@ loop-less c = search needs
 loop-again : tie.Need-loop-again Inv-loop μ-loop
 loop-again c = search needs
 
-returns : tie.Need-returns Inv-loop μ-loop
-returns c = search needs
+returns-2 : tie.Need-returns-2 Inv-loop μ-loop
+returns-2 c = search needs
 
 pub run-spec : {M : Type 1} → statement M
 run-spec =
@@ -53,7 +56,8 @@ run-spec =
     part-case-start
     part-case-end
     case-requires
+    returns
     add-at
     loop-less
     loop-again
-    returns)
+    returns-2)

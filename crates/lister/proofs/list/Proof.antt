@@ -29,7 +29,7 @@ write-requires : tie.Need-write-requires
 write-requires c κs = search needs
 
 list-points-requires : tie.Need-list-points-requires
-list-points-requires c κs = points-fit _ _ _ _ _ _ (c .before .before .before .before .before .before .before .answer .given .1) (c .before .before .before .before .before .before .before .before .before .before .before .read .ensures)
+list-points-requires c κs = points-fit _ _ _ _ _ _ (c .before .before .before .before .before .before .before .before .answer .given .1) (c .before .before .before .before .before .before .before .before .before .before .before .before .read .ensures)
 
 enum-known-answer-2 : tie.Need-enum-known-answer-2
 enum-known-answer-2 c = search needs
@@ -52,6 +52,9 @@ returns c = search needs
 returns-2 : tie.Need-returns-2
 returns-2 c = search needs
 
+returns-3 : tie.Need-returns-3
+returns-3 c = search needs
+
 pub list-spec : {M : Type 1} → statement M
 list-spec =
     tie.close
@@ -71,4 +74,5 @@ list-spec =
     slice-aggregate-write-2
     write-requires-2
     returns
-    returns-2)
+    returns-2
+    returns-3)

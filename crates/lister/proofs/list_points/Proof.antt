@@ -52,6 +52,9 @@ slice-aggregate-write c = search needs
 write-requires : tie.Need-write-requires Inv-loop μ-loop
 write-requires c κs = search needs
 
+returns : tie.Need-returns Inv-loop μ-loop
+returns c = search needs
+
 add-k : tie.Need-add-k Inv-loop μ-loop
 add-k c = search needs
 
@@ -61,8 +64,8 @@ loop-less c = search needs
 loop-again : tie.Need-loop-again Inv-loop μ-loop
 loop-again c = search needs
 
-returns : tie.Need-returns Inv-loop μ-loop
-returns c = search needs
+returns-2 : tie.Need-returns-2 Inv-loop μ-loop
+returns-2 c = search needs
 
 pub list-points-spec : {M : Type 1} → statement M
 list-points-spec =
@@ -84,7 +87,8 @@ list-points-spec =
     point-line-requires
     slice-aggregate-write
     write-requires
+    returns
     add-k
     loop-less
     loop-again
-    returns)
+    returns-2)

@@ -25,6 +25,9 @@ cast-print-hex c = omega (arith, c .shared-slice-known2 .given (c .before .befor
 print-hex-requires : tie.Need-print-hex-requires Inv-loop μ-loop
 print-hex-requires c κs = search needs
 
+told-requires : tie.Need-told-requires Inv-loop μ-loop
+told-requires c κs = search needs
+
 add-i : tie.Need-add-i Inv-loop μ-loop
 add-i c = search needs
 
@@ -47,6 +50,7 @@ write-hex-spec =
     shared-slice-read-print-hex
     cast-print-hex
     print-hex-requires
+    told-requires
     add-i
     loop-less
     loop-again

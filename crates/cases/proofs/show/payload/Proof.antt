@@ -34,6 +34,9 @@ small-requires c κs = search needs
 print-hex-requires : tie.Need-print-hex-requires Inv-loop μ-loop
 print-hex-requires c κs = search needs
 
+told-requires : tie.Need-told-requires Inv-loop μ-loop
+told-requires c κs = search needs
+
 add-i : tie.Need-add-i Inv-loop μ-loop
 add-i c = search needs
 
@@ -60,6 +63,7 @@ payload-spec =
     shared-slice-read-small
     small-requires
     print-hex-requires
+    told-requires
     add-i
     loop-less
     loop-again
