@@ -34,10 +34,10 @@ ghost use lib.ListN.{length};
 
 fn main() {
     let mut space = zeros();
-    let input = input::read_whole(STDIN_FILENO, &mut space);
-    let len = input.len;
-    let ended = input.ended;
-    match ended {
+    let len = io::read_full(STDIN_FILENO, &mut space);
+    let mut next = [0u8; 1];
+    let more = libc::read(STDIN_FILENO, &mut next);
+    match Ended::of(len, space.len(), more) {
         Ended::Whole => run(&space[..len]),
         Ended::TooLong => {
             show::write(b"too long\n");

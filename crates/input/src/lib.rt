@@ -1,6 +1,7 @@
-// Reads the whole of an input, and tells a read that failed from the input's end.
+// Tells how reading an input into a buffer ended, from what the system answered.
 
-ghost use Rattle.io.specs.Counts.{Counts};
+ghost use mathlib.Core.Path.{_≡_};
+ghost use Rattle.input.specs.Ended.{ended};
 
 // How reading ended.
 pub enum Ended {
@@ -12,36 +13,22 @@ pub enum Ended {
     Failed,
 }
 
-// What was read: len bytes, at the start of the buffer. Which bytes, and how it ended, is the system's
-// answer, of which no contract can speak.
-pub struct Input {
-    pub len: usize,
-    pub ended: Ended,
-}
-
-// `io::read_full` stops alike where the input ends and where a read fails, so that one read more has to
-// tell: at an end it gives nothing, and what fails once, as on a directory, fails again. Bytes after a
-// buffer that was not filled show that a read in between failed.
-pub fn read_whole(fd: i32, buf: &mut [u8]) -> Input
-    ensures { λ r. ⌜ Counts (r .len) (now (buf .exit)) ⌝ }
-{
-    let len = io::read_full(fd, buf);
-    let mut more = [0u8; 1];
-    let got = libc::read(fd, &mut more);
-    if got == 0 {
-        return Input {
-            len,
-            ended: Ended::Whole,
-        };
-    }
-    if got < 0 || len < buf.len() {
-        return Input {
-            len,
-            ended: Ended::Failed,
-        };
-    }
-    Input {
-        len,
-        ended: Ended::TooLong,
+impl Ended {
+    // `io::read_full` stops alike where the input ends and where a read fails, and answers the `len` bytes
+    // that a buffer of `room` then has. What one read more answers tells the two apart.
+    pub fn of(len: usize, room: usize, more: isize) -> Self
+        ensures { λ r. ⌜ r ≡ ended len room more ⌝ }
+    {
+        if more < 0 {
+            return Ended::Failed;
+        }
+        if 0 < more {
+            return if len < room {
+                Ended::Failed
+            } else {
+                Ended::TooLong
+            };
+        }
+        Ended::Whole
     }
 }

@@ -13,10 +13,10 @@ ghost use Rattle.livox_file.specs.Livox.{readLivoxBits};
 
 fn main() {
     let mut space = io::large_buffer();
-    let input = input::read_whole(STDIN_FILENO, &mut space);
-    let len = input.len;
-    let ended = input.ended;
-    match ended {
+    let len = io::read_full(STDIN_FILENO, &mut space);
+    let mut next = [0u8; 1];
+    let more = libc::read(STDIN_FILENO, &mut next);
+    match Ended::of(len, space.len(), more) {
         Ended::Whole => list(&space[..len]),
         Ended::TooLong => {
             write(b"too long\n");

@@ -36,10 +36,10 @@ fn replay(name: &[u8]) -> bool {
         return true;
     }
     let mut space = io::large_buffer();
-    let input = input::read_whole(file, &mut space);
-    let len = input.len;
-    let ended = input.ended;
-    match ended {
+    let len = io::read_full(file, &mut space);
+    let mut next = [0u8; 1];
+    let more = libc::read(file, &mut next);
+    match Ended::of(len, space.len(), more) {
         Ended::Whole => {
             libc::close(file);
             show(name, &space[..len])

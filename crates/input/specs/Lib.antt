@@ -1,0 +1,2 @@
+-- How reading an input ends.
+pub mod Ended
