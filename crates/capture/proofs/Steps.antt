@@ -1,6 +1,6 @@
 -- The walk by steps. After the record of a payload the walk has exactly the later payloads (`later`), so going from cursor to cursor yields the payloads in
 -- order (`step-end`, `step-payload`). Every payload lies inside the capture and is not empty (`all-within`), and so the part that is handed back is empty exactly
--- if the capture is refused or has no payload of that rank (`empty-exactly`). Assumes nothing.
+-- if the capture is refused or has no payload of that rank (`empty-if`, `empty-only-if`). Assumes nothing.
 use Prim.Native.Nat.{ℕ, zero, suc, _+_, _-_, _≤_, _<_, zero-le}
 use native.Mathlib.Nat.{lt-of-not-le}
 use native.Mathlib.Decide.{decLe, ℕ-discrete}

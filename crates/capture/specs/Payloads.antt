@@ -46,7 +46,8 @@ unfoldable pub foundFrom : Reading → Bool → ℕ → List ℕ → ℕ → Lis
 unfolding foundIn recordsFrom flatMap
 foundFrom reading big port bytes at = flatMap (foundIn reading port bytes) (recordsFrom (length bytes) (orderOf big) bytes at)
 
--- The payloads on a port, of which 0 is every one: what an accepted capture means.
+-- The places of the payloads on a port, in order; port 0 asks for every port. It is what an accepted capture means: the checks are not looked at here, but in
+-- `opening` and `placeOf`.
 unfoldable pub payloads : Reading → ℕ → List ℕ → List Place
 unfolding foundFrom
 payloads reading port bytes = map (λ (f : Found). f .place) (foundFrom reading (bigEndian reading bytes) port bytes 24)
@@ -64,7 +65,7 @@ placeOf reading port rank bytes = cond (eqb (firstRefusal (checks reading bytes)
 abbrev pub bytesAt : List ℕ → Place → List ℕ
 bytesAt bytes p = take (p .len) (drop (p .start) bytes)
 
--- A slice that points into the same memory as another, start bytes further on. A pointer is a block and an offset in it.
+-- A pointer into the same memory as another, start bytes further on, as a block and an offset in it. How long the part is, `bytesAt` tells.
 abbrev pub PartAt : ℕ → ℕ × ℕ → ℕ × ℕ → Type 0
 PartAt start whole part = (part .0 ≡ whole .0) × (part .1 ≡ start + whole .1)
 
@@ -90,7 +91,8 @@ abbrev pub openedAs : Opened → ℕ × List Cursor
 openedAs (Openings.Walk cursor) = (0, cursor ∷ [])
 openedAs (Openings.Refused refusal) = (refusalNumber refusal, [])
 
--- A step gives the first payload from the cursor on, and the cursor after its record.
+-- A step gives the first payload from the cursor on, and the cursor after its record, or `End` where there is none. Port, reading and byte order are the
+-- cursor's: the file header is not looked at again.
 abbrev pub stepTo : Cursor → List Found → Step
 stepTo cursor [] = Steps.End
 stepTo cursor (found ∷ later) =

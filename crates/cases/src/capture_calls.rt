@@ -118,6 +118,16 @@ fn read_into(
     if reader == VELODYNE {
         return read_velodyne(n[2], data, numbers, kinds);
     }
+    read_ouster_of(reader, n, data, numbers, kinds)
+}
+
+fn read_ouster_of(
+    reader: u8,
+    n: &[u64; 8],
+    data: &[u8],
+    numbers: &mut [f32],
+    kinds: &mut [u8],
+) -> Answer {
     if reader == OS1_64 {
         return read_os1_64(n[2], data, numbers, kinds);
     }

@@ -5,7 +5,7 @@ use mathlib.Core.List.{List, [], _∷_, reverse}
 use lib.ListN.{length, take, drop}
 use lib.Dec.{leb}
 
--- Which byte comes first: the least significant one, or the most significant one, as in captures.
+-- Which byte comes first: the least significant one, or the most significant one, as in the headers of Ethernet, IP and UDP.
 pub data ByteOrder : Type 0 where
   little big : ByteOrder
 

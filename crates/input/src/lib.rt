@@ -9,7 +9,7 @@ pub enum Ended {
     Whole,
     // The input goes on after the buffer's end.
     TooLong,
-    // A read failed, so that the buffer may have a part of the input only.
+    // A read failed, or told an end too early, so that the buffer may have a part of the input only.
     Failed,
 }
 

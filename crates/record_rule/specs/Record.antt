@@ -1,4 +1,5 @@
--- A record's rule: which test passes the record over, in the paper's order, or where its payload starts. It looks at the record's own bytes alone.
+-- A record's rule: which test passes the record over, in the paper's order, or where its payload starts. The paper gives the savefile reading's
+-- test of the IHL no place; it stands before that of the UDP header, which is found by the IHL. Only the record's own bytes are looked at.
 use Prim.Native.Nat.{ℕ}
 use mathlib.Core.Bool.{Bool, true, false, cond, not, _&&_}
 use mathlib.Core.List.{List, [], _∷_, _++_}
@@ -24,7 +25,7 @@ unfoldable pub firstThat : List (Verdict × Bool) → Verdict → Verdict
 firstThat [] otherwise = otherwise
 firstThat (test ∷ tests) otherwise = cond (test .1) (test .0) (firstThat tests otherwise)
 
--- The tests up to the protocol, then those from the IHL on, for the port that was asked for, of which 0 is every one.
+-- The tests up to the protocol, then those from the IHL on, for the port that was asked for; port 0 asks for every port.
 unfoldable pub ipTests : List ℕ → List (Verdict × Bool)
 ipTests bytes =
     (TooShort, ltb (length bytes) 42)

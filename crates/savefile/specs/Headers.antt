@@ -19,7 +19,7 @@ fileHeader reading bytes =
     let n = firstRefusal (checks reading bytes) in
     (n, cond (eqb n 0) (bigEndian reading bytes ∷ []) [])
 
--- What code's answer stands for.
+-- What code's answer stands for. `BigEndian false` accepts the file, too: its lengths are little-endian.
 abbrev pub fileHeaderAs : FileHeader → ℕ × List Bool
 fileHeaderAs (BigEndian big) = (0, big ∷ [])
 fileHeaderAs (Refused refusal) = (refusalNumber refusal, [])

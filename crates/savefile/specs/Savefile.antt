@@ -9,7 +9,8 @@ use Rattle.points.specs.ReadInto.{Check, tooLong}
 use Rattle.record_rule.specs.declared.reading.Reading.{Reading}
 use Rattle.record_rule.specs.declared.reading.Reading.the-variants.{Rust, Savefile}
 
--- The magic's four bytes as they stand in the file, for microseconds and for nanoseconds.
+-- The magic's four bytes as they stand in the file, for microseconds and for nanoseconds. They are read as big-endian only so that the digits here stand as the
+-- bytes do there.
 -- d4 c3 b2 a1 and 4d 3c b2 a1
 unfoldable pub leastFirstMagic : List ℕ → Bool
 leastFirstMagic bytes = eqb (unsignedAt big 4 bytes 0) 0xd4c3b2a1 || eqb (unsignedAt big 4 bytes 0) 0x4d3cb2a1
@@ -31,7 +32,7 @@ abbrev pub orderOf : Bool → ByteOrder
 orderOf true = big
 orderOf false = little
 
--- 3: the data is below 24 bytes; 4: the magic is none of the four. Both readings have the same checks; a stricter reading may have more.
+-- 3: the data is below 24 bytes; 4: the magic is none of the four. Both readings have the same checks.
 unfoldable pub fileChecks : Reading → List ℕ → List Check
 unfolding leastFirstMagic mostFirstMagic
 fileChecks reading bytes = (3, ltb (length bytes) 24) ∷ (4, not (leastFirstMagic bytes || mostFirstMagic bytes)) ∷ []
@@ -51,7 +52,7 @@ abbrev pub capturedAt : ByteOrder → List ℕ → ℕ → ℕ
 capturedAt order bytes at = unsignedAt order 4 bytes (at + 8)
 
 -- The records from a place on. A record that runs past the data ends the walk, and so does a header that does, whatever length would be read there. The bound on their number is not felt: by the
--- law `enough`, every bound from the data's length on gives the same records.
+-- law `enough` of proofs/Records.antt, every bound from the data's length on gives the same records.
 unfoldable pub recordsFrom : ℕ → ByteOrder → List ℕ → ℕ → List RecordAt
 recordsFrom zero order bytes at = []
 recordsFrom (suc bound) order bytes at =
