@@ -39,7 +39,7 @@ pub fn open_as(data: &[u8], reading: Reading, port: u16) -> Opened
     ensures { λ r. ⌜ openedAs r ≡ opening reading port (now («data» .entry)) ⌝ }
 {
     match savefile::file_header(data, reading) {
-        FileHeader::BigEndian(big_endian) => Opened::Walk(Cursor {
+        FileHeader::Accepted(big_endian) => Opened::Walk(Cursor {
             at: savefile::FILE_HEADER_LEN,
             port,
             reading,

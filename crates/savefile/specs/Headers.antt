@@ -10,7 +10,7 @@ use Rattle.record_rule.specs.declared.reading.Reading.{Reading}
 use Rattle.savefile.specs.declared.Captured.{Captured}
 use Rattle.savefile.specs.declared.Captured.the-variants.{Bytes, PastEnd}
 use Rattle.savefile.specs.declared.FileHeader.{FileHeader}
-use Rattle.savefile.specs.declared.FileHeader.the-variants.{BigEndian, Refused}
+use Rattle.savefile.specs.declared.FileHeader.the-variants.{Accepted, Refused}
 use Rattle.savefile.specs.Savefile.{capturedAt, bigEndian, orderOf, checks}
 
 -- The file header gives a number and, where that is 0, whether the records' lengths are big-endian.
@@ -19,9 +19,9 @@ fileHeader reading bytes =
     let n = firstRefusal (checks reading bytes) in
     (n, cond (eqb n 0) (bigEndian reading bytes ∷ []) [])
 
--- What code's answer stands for. `BigEndian false` accepts the file, too: its lengths are little-endian.
+-- What code's answer stands for.
 abbrev pub fileHeaderAs : FileHeader → ℕ × List Bool
-fileHeaderAs (BigEndian big) = (0, big ∷ [])
+fileHeaderAs (Accepted big) = (0, big ∷ [])
 fileHeaderAs (Refused refusal) = (refusalNumber refusal, [])
 
 -- How many bytes the record at a place captured, where all of them are there.

@@ -10,10 +10,10 @@ ghost use Rattle.fields.specs.Number.{unsignedAt, field};
 ghost use Rattle.savefile.specs.Savefile.{orderOf, bigEndianBy};
 ghost use Rattle.savefile.specs.Headers.{fileHeader, fileHeaderAs, capturedOf};
 
-// What the file header tells: whether the records' lengths are big-endian, or why the file is
-// refused.
+// What the file header tells.
 pub enum FileHeader {
-    BigEndian(bool),
+    // Whether the records' lengths are big-endian.
+    Accepted(bool),
     Refused(Refusal),
 }
 
@@ -38,8 +38,8 @@ pub fn file_header(data: &[u8], reading: Reading) -> FileHeader
     }
     // Microseconds and nanoseconds: the magic's least significant byte first, then its most.
     match u32_at(data, 0, true) {
-        0xd4c3_b2a1 | 0x4d3c_b2a1 => FileHeader::BigEndian(is_big_endian(reading, true)),
-        0xa1b2_c3d4 | 0xa1b2_3c4d => FileHeader::BigEndian(is_big_endian(reading, false)),
+        0xd4c3_b2a1 | 0x4d3c_b2a1 => FileHeader::Accepted(is_big_endian(reading, true)),
+        0xa1b2_c3d4 | 0xa1b2_3c4d => FileHeader::Accepted(is_big_endian(reading, false)),
         _ => FileHeader::Refused(Refusal::WrongMark),
     }
 }
