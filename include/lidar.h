@@ -158,7 +158,8 @@ void lidar_os_128(size_t *columns_per_packet, size_t *pixels_per_column, uint16_
 /* ---- captures: the UDP payloads of a libpcap savefile
 
    savefile   the reading: false is that of the original, threecrate's lidar.rs, which takes the byte
-              order of lengths from the magic the wrong way round; true is the format's, which also passes over an IHL below 5
+              order of lengths from the magic the wrong way round; true is the format's, which also
+              passes over an IPv4 header below 20 bytes (an IHL below 5)
    port       the destination port; 0 asks for every one
    start      takes where the payload's first byte stands in the data
    len        takes the payload's length, at least 1
