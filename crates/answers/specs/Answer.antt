@@ -5,27 +5,39 @@ use Rattle.answers.specs.declared.Refusal.the-variants.{TooLong, BadSett
 use Rattle.answers.specs.declared.Answer.{Answer}
 use Rattle.answers.specs.declared.Answer.the-variants.{Read, Refused}
 
--- Each refusal's number, and the points told with it: none, but for 10 the points needed.
-abbrev pub tells : Refusal → ℕ × ℕ
-tells TooLong = (1, 0)
-tells BadSettings = (2, 0)
-tells TooShort = (3, 0)
-tells WrongMark = (4, 0)
-tells WrongCode = (5, 0)
-tells HeaderTooShort = (6, 0)
-tells DevicesPastEnd = (7, 0)
-tells NotWholeRecords = (8, 0)
-tells NoPayload = (9, 0)
-tells (NoRoom needed) = (10, needed)
-tells NotPlaceable = (11, 0)
-tells BadPulseLength = (12, 0)
-tells OutsideWindow = (13, 0)
+-- What is told with a refusal: its number and no points, or 10 and the points needed.
+pub data Tells : Type 0 where
+  number : ℕ → Tells
+  noRoom : ℕ → Tells
+
+abbrev pub tells : Refusal → Tells
+tells TooLong = number 1
+tells BadSettings = number 2
+tells TooShort = number 3
+tells WrongMark = number 4
+tells WrongCode = number 5
+tells HeaderTooShort = number 6
+tells DevicesPastEnd = number 7
+tells NotWholeRecords = number 8
+tells NoPayload = number 9
+tells (NoRoom needed) = noRoom needed
+tells NotPlaceable = number 11
+tells BadPulseLength = number 12
+tells OutsideWindow = number 13
+
+abbrev numberTold : Tells → ℕ
+numberTold (number n) = n
+numberTold (noRoom needed) = 10
+
+abbrev pointsTold : Tells → ℕ
+pointsTold (number n) = 0
+pointsTold (noRoom needed) = needed
 
 abbrev pub refusalNumber : Refusal → ℕ
-refusalNumber refusal = tells refusal .0
+refusalNumber refusal = numberTold (tells refusal)
 
 abbrev pub refusalPoints : Refusal → ℕ
-refusalPoints refusal = tells refusal .1
+refusalPoints refusal = pointsTold (tells refusal)
 
 -- 0 when read.
 abbrev pub numberOf : Answer → ℕ

@@ -1,0 +1,2 @@
+-- The laws that stand for the definitions of `specs/` in the proofs of this crate and of its callers.
+pub mod Numbers
