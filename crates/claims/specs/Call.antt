@@ -31,15 +31,16 @@ use Rattle.placing.specs.Placing
 use Rattle.placing_in_file.specs.InFile
 
 -- How a reader of float records lays numbers: as values into a slice of f32, or as their patterns into a slice of u32.
-pub data Form : Type 0 where
-  byValue byPattern : Form
+pub data LaidBy : Type 0 where
+  byValue byPattern : LaidBy
 
--- A call with its input. A slice of numbers is given by its patterns in both forms, so that their rows read alike; by value it holds no NaN.
+-- A call with its input. A slice of numbers is given by its patterns in both cases, so that their rows read alike; by
+-- value it holds no NaN.
 pub data Call : Type 0 where
   -- The file, and what the slices of numbers and of kinds hold at entry.
-  kitti : Form → List ℕ → List ℕ → List ℕ → Call
-  lvx : Form → List ℕ → List ℕ → List ℕ → Call
-  lvx2 : Form → List ℕ → List ℕ → List ℕ → Call
+  kitti : LaidBy → List ℕ → List ℕ → List ℕ → Call
+  lvx : LaidBy → List ℕ → List ℕ → List ℕ → Call
+  lvx2 : LaidBy → List ℕ → List ℕ → List ℕ → Call
   -- Going through the payloads of a capture: the reading, the port, of which 0 is every one, and the file.
   capture : Reading → ℕ → List ℕ → Call
   -- One Velodyne payload, or a Velodyne capture with its reading; then what the slices of numbers and of kinds hold at entry.
