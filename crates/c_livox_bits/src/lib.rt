@@ -17,7 +17,7 @@ pub extern "C" fn lidar_read_lvx_bits(
 ) -> u8
     ensures { λ r. ⌜ outcome r (now (points .exit)) (now (frames .exit)) (now (bits .exit)) (now (kinds .exit)) ≡ readLivoxBits Lvx (now («data» .entry)) (now (bits .entry)) (now (kinds .entry)) ⌝ }
 {
-    tell(livox::read_lvx_bits(data, bits, kinds), points, frames)
+    tell(livox_bits::read_lvx_bits(data, bits, kinds), points, frames)
 }
 
 #[no_mangle]
@@ -30,5 +30,5 @@ pub extern "C" fn lidar_read_lvx2_bits(
 ) -> u8
     ensures { λ r. ⌜ outcome r (now (points .exit)) (now (frames .exit)) (now (bits .exit)) (now (kinds .exit)) ≡ readLivoxBits Lvx2 (now («data» .entry)) (now (bits .entry)) (now (kinds .entry)) ⌝ }
 {
-    tell(livox::read_lvx2_bits(data, bits, kinds), points, frames)
+    tell(livox_bits::read_lvx2_bits(data, bits, kinds), points, frames)
 }
