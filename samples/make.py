@@ -38,8 +38,8 @@ def lvx2(devices, frames):
     return head + bytes(41 * devices) + frames
 
 
-def int32(x, y, z):
-    return struct.pack("<iii", x, y, z) + bytes([10, 0])
+def int32(x, y, z, reflectivity=10):
+    return struct.pack("<iii", x, y, z) + bytes([reflectivity, 0])
 
 
 def int16(x, y, z):
@@ -237,8 +237,8 @@ base = 29 + 59
 step = 24 + len(first)
 
 FILES = {
-    # The file of 77 bytes: one point of 1750, -1000, 0 mm.
-    "one_point.lvx2": lvx2(0, frame(28, 0, 0) + lvx2_package(1, 1, int32(1750, -1000, 0))),
+    # The file of 77 bytes: one point of 1750, -1000, 0 mm, with reflectivity and tag 0.
+    "one_point.lvx2": lvx2(0, frame(28, 0, 0) + lvx2_package(1, 1, int32(1750, -1000, 0, 0))),
     # Each type of LVX2, in one frame.
     "each_type.lvx2": lvx2(
         1,

@@ -1,6 +1,8 @@
 // Both Livox forms, as include/lidar.h declares the calls.
 
 use c_form::tell;
+use livox::read_lvx;
+use livox::read_lvx2;
 ghost use mathlib.Core.Path.{_≡_};
 ghost use Rattle.points.specs.ReadInto.{outcome};
 ghost use Rattle.livox_file.specs.Livox.{readLivox};
@@ -16,7 +18,7 @@ pub extern "C" fn lidar_read_lvx(
 ) -> u8
     ensures { λ r. ⌜ outcome r (now (points .exit)) (now (frames .exit)) (now (numbers .exit)) (now (kinds .exit)) ≡ readLivox Lvx (now («data» .entry)) (now (numbers .entry)) (now (kinds .entry)) ⌝ }
 {
-    tell(livox::read_lvx(data, numbers, kinds), points, frames)
+    tell(read_lvx(data, numbers, kinds), points, frames)
 }
 
 #[no_mangle]
@@ -29,5 +31,5 @@ pub extern "C" fn lidar_read_lvx2(
 ) -> u8
     ensures { λ r. ⌜ outcome r (now (points .exit)) (now (frames .exit)) (now (numbers .exit)) (now (kinds .exit)) ≡ readLivox Lvx2 (now («data» .entry)) (now (numbers .entry)) (now (kinds .entry)) ⌝ }
 {
-    tell(livox::read_lvx2(data, numbers, kinds), points, frames)
+    tell(read_lvx2(data, numbers, kinds), points, frames)
 }

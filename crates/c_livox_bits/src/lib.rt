@@ -2,6 +2,8 @@
 // the reading of a point is then called from one loop, and compiled into it.
 
 use c_form::tell;
+use livox_bits::read_lvx_bits;
+use livox_bits::read_lvx2_bits;
 ghost use mathlib.Core.Path.{_≡_};
 ghost use Rattle.points.specs.ReadInto.{outcome};
 ghost use Rattle.livox_file.specs.Livox.{readLivoxBits};
@@ -17,7 +19,7 @@ pub extern "C" fn lidar_read_lvx_bits(
 ) -> u8
     ensures { λ r. ⌜ outcome r (now (points .exit)) (now (frames .exit)) (now (bits .exit)) (now (kinds .exit)) ≡ readLivoxBits Lvx (now («data» .entry)) (now (bits .entry)) (now (kinds .entry)) ⌝ }
 {
-    tell(livox::read_lvx_bits(data, bits, kinds), points, frames)
+    tell(read_lvx_bits(data, bits, kinds), points, frames)
 }
 
 #[no_mangle]
@@ -30,5 +32,5 @@ pub extern "C" fn lidar_read_lvx2_bits(
 ) -> u8
     ensures { λ r. ⌜ outcome r (now (points .exit)) (now (frames .exit)) (now (bits .exit)) (now (kinds .exit)) ≡ readLivoxBits Lvx2 (now («data» .entry)) (now (bits .entry)) (now (kinds .entry)) ⌝ }
 {
-    tell(livox::read_lvx2_bits(data, bits, kinds), points, frames)
+    tell(read_lvx2_bits(data, bits, kinds), points, frames)
 }

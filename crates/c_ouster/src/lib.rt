@@ -1,4 +1,4 @@
-// Ouster captures, as include/lidar.h declares the calls.
+// Ouster captures, and the settings of two Ouster sensors, as include/lidar.h declares the calls.
 
 use c_form::reading_of;
 use c_form::tell;
@@ -6,9 +6,10 @@ use ouster::OusterSettings;
 ghost use mathlib.Core.Path.{_≡_};
 ghost use Rattle.points.specs.ReadInto.{outcome};
 ghost use Rattle.record_rule.specs.Reading.{usual};
+ghost use Rattle.ouster_settings.specs.Settings.{os1-64, os-128, os1-64-elevations, os-128-elevations};
 ghost use Rattle.ouster.specs.Ouster.{readOuster};
 ghost use Rattle.c_form.specs.Reading.{readingOf};
-ghost use Rattle.c_ouster_settings.specs.Settings.{settingsOf};
+ghost use Rattle.c_ouster.specs.Settings.{settingsOf};
 
 #[no_mangle]
 pub extern "C" fn lidar_read_ouster(
@@ -62,4 +63,38 @@ pub extern "C" fn lidar_read_ouster_as(
         points,
         frames,
     )
+}
+
+#[no_mangle]
+pub extern "C" fn lidar_os1_64(
+    columns_per_packet: &mut usize,
+    pixels_per_column: &mut usize,
+    lidar_port: &mut u16,
+    beam_altitudes: &mut [f32; 64],
+)
+    ensures { λ _. ⌜ settingsOf (now («columns_per_packet» .exit)) (now («pixels_per_column» .exit)) (now («lidar_port» .exit)) ≡ os1-64 ⌝ }
+    ensures { λ _. ⌜ now («beam_altitudes» .exit) ≡ os1-64-elevations ⌝ }
+{
+    let settings = OusterSettings::os1_64();
+    *columns_per_packet = settings.columns_per_packet;
+    *pixels_per_column = settings.pixels_per_column;
+    *lidar_port = settings.lidar_port;
+    *beam_altitudes = OusterSettings::os1_64_altitudes();
+}
+
+#[no_mangle]
+pub extern "C" fn lidar_os_128(
+    columns_per_packet: &mut usize,
+    pixels_per_column: &mut usize,
+    lidar_port: &mut u16,
+    beam_altitudes: &mut [f32; 128],
+)
+    ensures { λ _. ⌜ settingsOf (now («columns_per_packet» .exit)) (now («pixels_per_column» .exit)) (now («lidar_port» .exit)) ≡ os-128 ⌝ }
+    ensures { λ _. ⌜ now («beam_altitudes» .exit) ≡ os-128-elevations ⌝ }
+{
+    let settings = OusterSettings::os_128();
+    *columns_per_packet = settings.columns_per_packet;
+    *pixels_per_column = settings.pixels_per_column;
+    *lidar_port = settings.lidar_port;
+    *beam_altitudes = OusterSettings::os_128_altitudes();
 }

@@ -15,7 +15,8 @@ unfoldable pub decimalIn : ℕ → ℕ → List ℕ
 decimalIn zero n = []
 decimalIn (suc steps) n = cond (ltb n 10) [] (decimalIn steps (n / 10)) ++ glyph (n % 10) ∷ []
 
--- The decimal digits of n, with no zero in front of another digit. n + 1 steps are enough, and more change nothing: `steps-enough`.
+-- The decimal digits of n, with no zero in front of another digit. n + 1 steps are enough, and more change nothing:
+-- `steps-enough`.
 unfoldable pub decimal : ℕ → List ℕ
 unfolding decimalIn
 decimal n = decimalIn (suc n) n

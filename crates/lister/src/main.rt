@@ -49,8 +49,8 @@ fn read(data: &[u8], bits: &mut [u32], kinds: &mut [u8]) -> Answer
     ensures { λ r. ⌜ answered r (now (bits .exit)) (now (kinds .exit)) ≡ readLivoxBits (formOf (now («data» .entry))) (now («data» .entry)) (now (bits .entry)) (now (kinds .entry)) ⌝ }
 {
     match livox_header::form_of(data) {
-        Form::Lvx => livox::read_lvx_bits(data, bits, kinds),
-        Form::Lvx2 => livox::read_lvx2_bits(data, bits, kinds),
+        Form::Lvx => livox_bits::read_lvx_bits(data, bits, kinds),
+        Form::Lvx2 => livox_bits::read_lvx2_bits(data, bits, kinds),
     }
 }
 

@@ -1,5 +1,5 @@
 -- The laws of a whole file.
-pub mod Told
+pub mod ToCome
 pub mod Counts
 pub mod Reading
 pub mod Progress
