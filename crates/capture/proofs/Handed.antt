@@ -26,7 +26,7 @@ use Rattle.savefile.proofs.Records.{records-inside}
 use Rattle.capture.specs.declared.walk.Cursor.{Cursor}
 use Rattle.capture.specs.declared.walk.Place.{Place}
 use Rattle.capture.specs.declared.walk.Step.the-variants.{Payload}
-use Rattle.capture.specs.Payloads.{Yield, yieldAt, yieldOf, yieldsIn, yieldsFrom, placesOf, payloads, nowhere, ofRank, placeOf, bytesAt, yieldsAfter, stepTo, stepOf}
+use Rattle.capture.specs.Payloads.{Yield, yieldAt, yieldOf, yieldsIn, yieldsFrom, placesOf, payloads, nowhere, handedAs, placeOf, bytesAt, yieldsAfter, stepTo, stepOf}
 
 pub record Within (bytes : List ℕ) (p : Place) : Type 0 where
   pub inside : p .start + p .len ≤ length bytes
@@ -56,57 +56,55 @@ all-within reading port bytes (r ∷ records) i =
 
 -- The number is what the checks give: 0 accepts, and any other refuses.
 module _ (number : ℕ) (places : List Place) (rank : ℕ) where
-  pub accepted : number ≡ 0 → ofRank number places rank ≡ getD places rank nowhere
+  -- The capture is refused, or has no payload of that rank.
+  abbrev pub NoneOfRank : Type 0
+  NoneOfRank = (number ≡ 0 → ⊥) ⊎ (length places ≤ rank)
+
+  pub accepted : number ≡ 0 → handedAs number places rank ≡ getD places rank nowhere
   accepted e = rw e
 
-  pub refused : (number ≡ 0 → ⊥) → ofRank number places rank ≡ nowhere
-  refused n = rw (ne-eqb number 0 n)
-
-  beyond : length places ≤ rank → ofRank number places rank ≡ nowhere
-  beyond h = rw (List·getD-eq-default places nowhere h) (either (eqb number 0))
+  pub none-handed : NoneOfRank → handedAs number places rank ≡ nowhere
+  none-handed (inl n) = rw (ne-eqb number 0 n)
+  none-handed (inr h) = rw (List·getD-eq-default places nowhere h) (either (eqb number 0))
     where
       either : (b : Bool) → cond b nowhere nowhere ≡ nowhere
       either true = refl
       either false = refl
 
-module _ (reading : Reading) (port number rank : ℕ) (bytes : List ℕ) (records : List Record) (inside : AllInside bytes records) where
-  abbrev pub places : List Place
-  places = placesOf (yieldsIn reading port bytes records)
-
-  -- No payload: the capture is refused, or has none of that rank.
-  abbrev pub NoPayload : Type 0
-  NoPayload = (number ≡ 0 → ⊥) ⊎ (length places ≤ rank)
-
-  -- Otherwise the place is a payload's.
-  which : NoPayload ⊎ Within bytes (ofRank number places rank)
-  which =
+  none-or-within : (bytes : List ℕ) → AllWithin bytes places → NoneOfRank ⊎ Within bytes (handedAs number places rank)
+  none-or-within bytes all =
       elim (ℕ-discrete number 0) [
         | yes a ↦
             elim (decLe (length places) rank) [
               | yes h ↦ inl (inr h)
-              | no h ↦ inr (rw (accepted number places rank a) (at-rank bytes places rank (all-within reading port bytes records inside) (lt-of-not-le h)))
+              | no h ↦ inr (rw (accepted a) (at-rank bytes places rank all (lt-of-not-le h)))
             ]
         | no n ↦ inl (inl n)
       ]
 
-  none : NoPayload → ofRank number places rank ≡ nowhere
-  none (inl n) = refused number places rank n
-  none (inr h) = beyond number places rank h
+module _ (reading : Reading) (port number rank : ℕ) (bytes : List ℕ) (records : List Record) (inside : AllInside bytes records) where
+  abbrev pub places : List Place
+  places = placesOf (yieldsIn reading port bytes records)
 
-  pub place-inside : ofRank number places rank .start + ofRank number places rank .len ≤ length bytes
-  place-inside = elim which [
-    | inl n ↦ rw (none n) zero-le
-    | inr w ↦ w .inside
-  ]
+  which : NoneOfRank number places rank ⊎ Within bytes (handedAs number places rank)
+  which = none-or-within number places rank bytes (all-within reading port bytes records inside)
 
-  pub empty-if : NoPayload → bytesAt bytes (ofRank number places rank) ≡ []
-  empty-if n = rw (none n)
+  pub place-inside : handedAs number places rank .start + handedAs number places rank .len ≤ length bytes
+  place-inside =
+      elim which [
+        | inl n ↦ rw (none-handed number places rank n) zero-le
+        | inr w ↦ w .inside
+      ]
 
-  pub empty-only-if : bytesAt bytes (ofRank number places rank) ≡ [] → NoPayload
-  empty-only-if e = elim which [
-    | inl n ↦ n
-    | inr w ↦ absurd (omega (arith, w .inside, w .some, simp (length-take, length-drop) at (ap length e)))
-  ]
+  pub empty-if : NoneOfRank number places rank → bytesAt bytes (handedAs number places rank) ≡ []
+  empty-if n = rw (none-handed number places rank n)
+
+  pub empty-only-if : bytesAt bytes (handedAs number places rank) ≡ [] → NoneOfRank number places rank
+  empty-only-if e =
+      elim which [
+        | inl n ↦ n
+        | inr w ↦ absurd (omega (arith, w .inside, w .some, simp (length-take, length-drop) at (ap length e)))
+      ]
 
 -- ---- of a savefile's records
 module _ (reading : Reading) (port rank : ℕ) (bytes : List ℕ) where
@@ -119,18 +117,15 @@ module _ (reading : Reading) (port rank : ℕ) (bytes : List ℕ) where
   lie-inside : AllInside bytes records
   lie-inside = records-inside (orderOf (bigEndian reading bytes)) bytes (length bytes) 24
 
-  abbrev pub NoneOfRank : Type 0
-  NoneOfRank = (number ≡ 0 → ⊥) ⊎ (length (payloads reading port bytes) ≤ rank)
-
   pub part-inside : placeOf reading port rank bytes .start + placeOf reading port rank bytes .len ≤ length bytes
   unfolding placeOf payloads yieldsFrom
   part-inside = place-inside reading port number rank bytes records lie-inside
 
-  pub part-empty-if : NoneOfRank → bytesAt bytes (placeOf reading port rank bytes) ≡ []
+  pub part-empty-if : NoneOfRank number (payloads reading port bytes) rank → bytesAt bytes (placeOf reading port rank bytes) ≡ []
   unfolding placeOf payloads yieldsFrom
   part-empty-if = empty-if reading port number rank bytes records lie-inside
 
-  pub part-empty-only-if : bytesAt bytes (placeOf reading port rank bytes) ≡ [] → NoneOfRank
+  pub part-empty-only-if : bytesAt bytes (placeOf reading port rank bytes) ≡ [] → NoneOfRank number (payloads reading port bytes) rank
   unfolding placeOf payloads yieldsFrom
   part-empty-only-if = empty-only-if reading port number rank bytes records lie-inside
 

@@ -1,10 +1,10 @@
 -- The payloads of a capture, in order, each with its place.
-use Prim.Native.Nat.{ℕ, zero, suc, _+_}
+use Prim.Native.Nat.{ℕ, _+_}
 use mathlib.Core.Path.{_≡_}
-use mathlib.Core.Bool.{Bool, true, false, cond}
+use mathlib.Core.Bool.{Bool, cond}
 use mathlib.Core.List.{List, [], _∷_, flatMap, map}
 use lib.Dec.{eqb}
-use lib.ListN.{length, take, drop, getD}
+use lib.ListN.{take, drop, getD}
 use Rattle.answers.specs.Answer.{refusalNumber}
 use Rattle.points.specs.ReadInto.{firstRefusal}
 use Rattle.record_rule.specs.declared.Record.{Record}
@@ -30,6 +30,7 @@ pub record Yield : Type 0 where
   pub place : Place
   pub next : ℕ
 
+-- A record that is passed over yields none.
 abbrev pub yieldAt : Record → Start → List Yield
 yieldAt r Nothing = []
 yieldAt r (At start len) = record { place = placeIn r start len; next = recordEnd r } ∷ []
@@ -59,15 +60,15 @@ payloads reading port bytes = placesOf (yieldsFrom reading (bigEndian reading by
 abbrev pub nowhere : Place
 nowhere = record { header = 0; start = 0; len = 0 }
 
--- Of some places the one of a rank, counted from 0: `nowhere` exactly if the checks refuse the capture, by a number that
--- is not 0, or there is none of that rank.
-abbrev pub ofRank : ℕ → List Place → ℕ → Place
-ofRank number places rank = cond (eqb number 0) (getD places rank nowhere) nowhere
+-- What a number means for the place of a rank among some places: 0, that it is told; a refusal tells `nowhere`.
+abbrev pub handedAs : ℕ → List Place → ℕ → Place
+handedAs number places rank = cond (eqb number 0) (getD places rank nowhere) nowhere
 
--- The place of the payload of a rank.
+-- The place of the payload of a rank, counted from 0: `nowhere` exactly if the capture is refused or has no payload of
+-- that rank.
 unfoldable pub placeOf : Reading → ℕ → ℕ → List ℕ → Place
 unfolding payloads
-placeOf reading port rank bytes = ofRank (firstRefusal (checks reading bytes)) (payloads reading port bytes) rank
+placeOf reading port rank bytes = handedAs (firstRefusal (checks reading bytes)) (payloads reading port bytes) rank
 
 -- The bytes at a place.
 abbrev pub bytesAt : List ℕ → Place → List ℕ

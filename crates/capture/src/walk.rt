@@ -80,11 +80,8 @@ impl Cursor {
             };
             let body = record.body;
             let end = body + record.len;
-            if let Start::At(start, len) = record_rule::judge(
-                &data[body..end],
-                reading,
-                port,
-            ).start() {
+            let verdict = record_rule::judge(&data[body..end], reading, port);
+            if let Start::At(start, len) = verdict.start() {
                 return Step::Payload(place_in(record, start, len), self.moved_to(end));
             }
             at = end;

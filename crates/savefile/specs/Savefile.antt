@@ -63,6 +63,6 @@ recordsFrom (suc bound) order bytes at =
     let r = recordAt order bytes at in
     cond (leb (recordEnd r) (length bytes)) (r ∷ recordsFrom bound order bytes (recordEnd r)) []
 
--- All of them.
+-- All records from a place on: each takes bytes of the data, so that its length is bound enough.
 abbrev pub allRecordsFrom : ByteOrder → List ℕ → ℕ → List Record
 allRecordsFrom order bytes at = recordsFrom (length bytes) order bytes at

@@ -1,10 +1,11 @@
 -- `payloads::payload_place_as` meets its contract: what opening says decides whether there is a walk, and the walk has the place. Assumes nothing.
+use mathlib.Core.Logic.{inl}
 use mathlib.Core.Path.{_≡_, sym, ap, _∙_}
 use lib.ListN.{getD}
 use Rattle.capture.specs.declared.walk.Opened.{Opened}
 use Rattle.capture.specs.Payloads.{ofOpened, placesFrom, payloads, placeOf}
 use Rattle.capture.proofs.Opening.{walks, refuses}
-use Rattle.capture.proofs.Handed.{accepted, refused}
+use Rattle.capture.proofs.Handed.{accepted, none-handed}
 use borrow.Author.Needs.{needs}
 use Rattle.payloads.proofs.payload_place_as.Statement.{statement}
 use Rattle.payloads.proofs.payload_place_as.Tie as tie
@@ -26,7 +27,7 @@ unfolding placeOf
 returns c =
     let a = c .before .before .before .before .before .args in
     let no = refuses (a .reading) (a .port) (a .«data» .now) _ (ap ofOpened (sym (c .before .enum-told .given .1)) ∙ c .before .before .before .open-as .ensures) in
-    c .nowhere .ensures ∙ sym (refused _ (payloads (a .reading) (a .port) (a .«data» .now)) (a .rank) no)
+    c .nowhere .ensures ∙ sym (none-handed _ (payloads (a .reading) (a .port) (a .«data» .now)) (a .rank) (inl no))
 
 place-from-requires : tie.Need-place-from-requires
 place-from-requires c κs = search needs
