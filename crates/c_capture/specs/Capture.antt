@@ -11,7 +11,8 @@ use Rattle.capture.specs.declared.walk.Step.the-variants.{Payload, End}
 use Rattle.savefile.specs.Savefile.{checks}
 use Rattle.capture.specs.Payloads.{placeOf, startCursor, movedTo, stepOf}
 
--- The number that the capture's checks give, and the start and the length of the payload of a rank: 0 and 0 where there is none.
+-- The number that the capture's checks give, and the start and the length of the payload of a rank: 0 and 0 where there
+-- is none.
 pub data PlaceTold : Type 0 where
   placeTold : ℕ → ℕ → ℕ → PlaceTold
 

@@ -1,6 +1,6 @@
 -- A record's rule: which test passes the record over, in the paper's order, or where its payload starts and how long it
--- is. The paper gives the savefile reading's test of the IHL no place; it stands before that of the UDP header, which is
--- found by the IHL. Only the record's own bytes are looked at.
+-- is. The paper gives the savefile reading's test of the IHL no place; it stands before that of the UDP header, which
+-- is found by the IHL. Only the record's own bytes are looked at.
 use Prim.Native.Nat.{ℕ}
 use mathlib.Core.Bool.{Bool, true, false, cond, not, _&&_}
 use mathlib.Core.List.{List, [], _∷_, _++_}
