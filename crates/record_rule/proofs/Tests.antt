@@ -2,7 +2,7 @@
 use Prim.Native.Nat.{ℕ, _+_, _-_, _*_, _/_, _%_, _≤_, _<_}
 use native.Mathlib.Nat.{mul-comm}
 use native.Mathlib.Omega.{arith}
-use mathlib.Core.Path.{_≡_, refl, sym, ap, _∙_}
+use mathlib.Core.Path.{_≡_, refl, ap}
 use mathlib.Core.Bool.{Bool, true, false, not, _&&_, cond}
 use mathlib.Core.List.{List, [], _∷_, _++_}
 use lib.Dec.{leb, ltb, eqb}
@@ -12,7 +12,7 @@ use Rattle.fields.specs.Number.{big, unsignedAt}
 use Rattle.record_rule.specs.declared.reading.Reading.{Reading}
 use Rattle.record_rule.specs.declared.rule.Start.the-variants.{At, Nothing}
 use Rattle.record_rule.specs.declared.rule.Verdict.{Verdict}
-use Rattle.record_rule.specs.declared.rule.Verdict.the-variants.{ShortRecord, NotIpv4, WrongVersion, NotUdp, ShortIpHeader, UdpPastEnd, OtherPort, NothingFollows, Payload}
+use Rattle.record_rule.specs.declared.rule.Verdict.the-variants.{ShortRecord, NotIpv4, WrongVersion, NotUdp, ShortIpHeader, UdpPastEnd, OtherPort, NothingFollows}
 use Rattle.record_rule.specs.Ethernet.{typeAt, etherType, ipStart}
 use Rattle.record_rule.specs.Ipv4.{version, ihl, protocol, udpStart}
 use Rattle.record_rule.specs.Udp.{destinationPort, payloadStart, payloadLen}

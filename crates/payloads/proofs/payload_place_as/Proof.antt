@@ -1,8 +1,6 @@
 -- `payloads::payload_place_as` meets its contract: what opening says decides whether there is a walk, and the walk has the place. Assumes nothing.
 use mathlib.Core.Logic.{inl}
-use mathlib.Core.Path.{_≡_, sym, ap, _∙_}
-use lib.ListN.{getD}
-use Rattle.capture.specs.declared.walk.Opened.{Opened}
+use mathlib.Core.Path.{sym, ap, _∙_}
 use Rattle.capture.specs.Payloads.{ofOpened, placesFrom, payloads, placeOf}
 use Rattle.capture.proofs.Opening.{walks, refuses}
 use Rattle.capture.proofs.Handed.{accepted, none-handed}

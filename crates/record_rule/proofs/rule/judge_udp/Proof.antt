@@ -1,6 +1,5 @@
 -- `record_rule::judge_udp` meets its contract. What code computes are the definition's places, and each way out is a case of its tests. Assumes nothing.
-use Prim.Native.Nat.{ℕ, _+_, _-_, _*_, _≤_}
-use native.Mathlib.Omega.{arith}
+use Prim.Native.Nat.{ℕ, _+_, _-_, _*_}
 use mathlib.Core.Path.{_≡_, sym, ap, _∙_}
 use mathlib.Core.Bool.{false, not, _&&_}
 use lib.Dec.{ltb, eqb}
@@ -8,7 +7,7 @@ use lib.ListN.{length}
 use borrow.Author.Tests.{lt-ltb, le-ltb, le-leb, lt-leb}
 use Rattle.record_rule.specs.declared.rule.Verdict.the-variants.{Payload}
 use Rattle.record_rule.specs.Ipv4.{ihl}
-use Rattle.record_rule.specs.Udp.{payloadStart, payloadLen, destinationPort}
+use Rattle.record_rule.specs.Udp.{payloadStart, destinationPort}
 use Rattle.record_rule.specs.Record.{asksIhl, payloadOf}
 use Rattle.record_rule.proofs.Tests.{port-is, start-is, len-is, short-header, past-end, other-port, nothing-follows, payload}
 use borrow.Author.Needs.{needs}

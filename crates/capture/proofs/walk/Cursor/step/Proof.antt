@@ -1,6 +1,6 @@
 -- `capture::Cursor::step` meets its contract. The loop's invariant: from the place reached the walk yields what it yields from the cursor on. A record that is
 -- passed over moves the place after it, and a payload is the first of them. Assumes nothing.
-use Prim.Native.Nat.{ℕ, _+_, _-_, _≤_, _<_}
+use Prim.Native.Nat.{ℕ, _+_, _-_, _<_}
 use native.Mathlib.Omega.{arith}
 use mathlib.Core.Path.{_≡_, refl, sym, ap, _∙_}
 use mathlib.Core.List.{List, _++_}
@@ -8,7 +8,6 @@ use lib.ListN.{length, take, drop}
 use borrow.Author.Needs.{needs}
 use Rattle.record_rule.specs.declared.Record.{Record}
 use Rattle.record_rule.specs.declared.rule.Start.{Start}
-use Rattle.record_rule.specs.declared.rule.Start.the-variants.{At}
 use Rattle.record_rule.specs.Captured.{recordEnd}
 use Rattle.record_rule.specs.Record.{startOf, verdict}
 use Rattle.record_rule.proofs.Inside.{Inside}
