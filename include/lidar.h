@@ -10,9 +10,9 @@
 extern "C" {
 #endif
 
-/* What a call gives back: 0 when the data was read, else why it was refused.
-   The checks run in this order, and the first that applies gives the number.
-   A check that concerns another file or call is skipped. */
+/* The number that a reader, a placing and a call by rank give back: 0 when the data was read, else why
+   it was refused. Each call has its checks in a fixed order of its own, and the first that applies
+   gives the number. */
 enum lidar_number {
     LIDAR_READ = 0,               /* or, of a point, that it was placed or told */
     LIDAR_TOO_LONG = 1,           /* the data is longer than 2147483647 bytes */
@@ -26,7 +26,7 @@ enum lidar_number {
     LIDAR_NOT_WHOLE_RECORDS = 8,  /* KITTI: the length is not a multiple of 16 bytes */
     LIDAR_NO_PAYLOAD = 9,         /* capture: no payload on the reader's port */
     LIDAR_NO_ROOM = 10,           /* a buffer is too short; *points tells the points needed */
-    LIDAR_NOT_PLACEABLE = 11,     /* placing: not a whole-millimetre Livox point, or no such rank */
+    LIDAR_NOT_PLACEABLE = 11,     /* no whole-millimetre Livox point to place, or none of that rank */
     LIDAR_BAD_PULSE_LENGTH = 12,  /* placing: outside 1 to 1000 micrometres */
     LIDAR_OUTSIDE_WINDOW = 13     /* placing: beyond 16000000 micrometres either way */
 };
@@ -38,7 +38,8 @@ enum lidar_kind {
                              unless a call says otherwise */
 };
 
-/* For every call below: data and data_len are the file's bytes, which are only read.
+/* For every call below: data and data_len are the file's bytes, payload and payload_len those of one
+   packet, which are only read.
 
    The caller owns all memory. A call keeps no pointer and allocates nothing.
    No pointer may be null, even where its length is 0. Each must be aligned for its type.
@@ -159,12 +160,13 @@ void lidar_os_128(size_t *columns_per_packet, size_t *pixels_per_column, uint16_
 
    savefile   the reading: false is that of the original, threecrate's lidar.rs, which takes the byte
               order of lengths from the magic the wrong way round; true is the format's, which also
-              passes over an IPv4 header below 20 bytes (an IHL below 5)
+              passes over a record whose IPv4 header is below 20 bytes (an IHL below 5)
    port       the destination port; 0 asks for every one
    start      takes where the payload's first byte stands in the data
-   len        takes the payload's length, at least 1
+   len        takes the payload's length
 
-   *start and *len are always written: where there is no payload, both are 0.
+   *start and *len are always written: where there is a payload, *len is at least 1, and where there is
+   none, both are 0.
    The calls without `savefile` use the usual reading, which is the original's. */
 
 /* Finds the payload of a rank, counted from 0. Gives back LIDAR_READ, whether or not there is one,
@@ -177,9 +179,9 @@ uint8_t lidar_payload_place(const uint8_t *data, size_t data_len,
                             uint16_t port, size_t rank, size_t *start, size_t *len);
 
 /* Finds the next payload, and gives back whether there was one. *at is where the walk stands: 0
-   before the first call, and then what the last call left in it, after the payload's record.
-   From any other place it goes on as if a record started there.
-   Where there is no payload more, or the capture is refused, *at stays.
+   before the first call, and then what the last call left in it, after the payload's record. 1 to 23
+   stand for 24, as 0 does, where the first record starts; from any other place it goes on as if a
+   record started there. Where there is no payload more, or the capture is refused, *at stays.
 
        size_t at = 0, start, len;
        while (lidar_next_payload(data, data_len, port, &at, &start, &len))
@@ -200,7 +202,7 @@ bool lidar_next_payload(const uint8_t *data, size_t data_len,
 
    The exact distance is the point's x in micrometres plus (count - datum) * pulse_length. What is told
    is within half a micrometre of it, however often the count has wrapped, as long as the belt moved by
-   less than 2^31 pulses. Beyond 16 m either way it is refused with LIDAR_OUTSIDE_WINDOW. */
+   less than 2^31 pulses either way. Beyond 16 m either way it is refused with LIDAR_OUTSIDE_WINDOW. */
 
 /* Places a point by its stored x: in millimetres (LVX and LVX2 type 1), or in counts of ten
    millimetres (LVX2 type 0). */
@@ -232,8 +234,8 @@ enum lidar_stored {
 };
 
 /* Tells the stored reading of a rank of a Livox file, whether it can be placed or not. *stored, which
-   says what the three numbers are, and the numbers are always written; on a refusal they are 0. No
-   point of that rank is LIDAR_NOT_PLACEABLE. */
+   says what the three numbers are, and the numbers are always written; on a refusal they are 0. The
+   file's own refusals come first; no point of that rank is LIDAR_NOT_PLACEABLE. */
 uint8_t lidar_stored_reading(const uint8_t *data, size_t data_len, bool lvx2, size_t rank,
                              uint8_t *stored, int64_t *first, int64_t *second, int64_t *third);
 

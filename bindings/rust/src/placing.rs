@@ -23,8 +23,8 @@ pub struct BeltPulses(pub i32);
 ///
 /// The exact distance is the point's x plus (count − datum) × pulse length. What is told is within half
 /// a micrometre of it, however often the count has wrapped, as long as the belt moved by less than 2^31
-/// pulses. Beyond 16 m either way it is [`Refusal::OutsideWindow`]. A spherical or float reading is
-/// [`Refusal::NotPlaceable`].
+/// pulses either way. Beyond 16 m either way it is [`Refusal::OutsideWindow`]. A spherical or float
+/// reading is [`Refusal::NotPlaceable`].
 ///
 /// ```
 /// use lidar::{BeltCount, BeltDatum, PulseLength, StoredReading};
@@ -54,7 +54,8 @@ pub fn place(
 }
 
 /// [`place`] of the point of a rank, counted from 0 among all points of a Livox file. The file's own
-/// refusals come first; a rank that it does not have is [`Refusal::NotPlaceable`].
+/// refusals come first; a rank that it does not have, or a point that is spherical or of floats, is
+/// [`Refusal::NotPlaceable`].
 ///
 /// ```
 /// use lidar::{BeltCount, BeltDatum, Form, PulseLength};

@@ -4,8 +4,8 @@ use std::fmt;
 
 /// Why a call refuses, by the names and numbers of `include/lidar.h`.
 ///
-/// The numbers are also the order of the checks: the first that applies is told. A refusal changes
-/// nothing in a lent slice.
+/// Each call has its checks in a fixed order of its own, and the first that applies is told. A refusal
+/// changes nothing in a lent slice.
 ///
 /// ```
 /// use lidar::Refusal;
@@ -38,7 +38,7 @@ pub enum Refusal {
     NoPayload,
     /// 10: a lent slice is too short. Carries the points needed: three numbers and one kind for each.
     NoRoom(usize),
-    /// 11: placing: not a whole-millimetre Livox point, or no point of that rank.
+    /// 11: no whole-millimetre Livox point to place, or no point of that rank.
     NotPlaceable,
     /// 12: placing: the pulse length is outside 1 to 1,000 micrometres.
     BadPulseLength,

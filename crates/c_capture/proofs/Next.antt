@@ -1,6 +1,6 @@
 -- What the next call tells, by what opening and the step give. Assumes nothing.
 use Prim.Native.Nat.{ℕ}
-use mathlib.Core.Path.{_≡_, sym, ap, _∙_}
+use mathlib.Core.Path.{_≡_}
 use mathlib.Core.List.{List, [], _∷_}
 use borrow.Author.Tests.{ne-eqb}
 use Rattle.points.specs.ReadInto.{firstRefusal}
@@ -10,14 +10,14 @@ use Rattle.capture.specs.declared.walk.Step.{Step}
 use Rattle.savefile.specs.Savefile.{checks}
 use Rattle.capture.specs.Payloads.{opening, stepOf}
 use Rattle.capture.proofs.Opening.{walks, refuses}
-use Rattle.c_capture.specs.Capture.{noNext, tellStep, movedTo, tellNext}
+use Rattle.c_capture.specs.Capture.{noNext, tellStep, movedOn, tellNext}
 
 module _ (reading : Reading) (port : ℕ) (bytes : List ℕ) (at : ℕ) where
   pub refused : (n : ℕ) → (n, []) ≡ opening reading port bytes → noNext at ≡ tellNext reading port bytes at
   unfolding tellNext
   refused n e = rw (ne-eqb (firstRefusal (checks reading bytes)) 0 (refuses reading port bytes n e))
 
-  pub stepped : (cursor moved : Cursor) (s : Step) → (0, cursor ∷ []) ≡ opening reading port bytes → moved ≡ movedTo cursor at → stepOf moved bytes ≡ s → tellStep at s ≡ tellNext reading port bytes at
+  pub stepped : (cursor moved : Cursor) (s : Step) → (0, cursor ∷ []) ≡ opening reading port bytes → moved ≡ movedOn cursor at → stepOf moved bytes ≡ s → tellStep at s ≡ tellNext reading port bytes at
   unfolding tellNext
   stepped cursor moved s e m t =
       let yes = walks reading port bytes cursor e in

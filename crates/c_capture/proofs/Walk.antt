@@ -18,7 +18,7 @@ use Rattle.capture.specs.declared.walk.Step.the-variants.{Payload, End}
 use Rattle.savefile.specs.Savefile.{checks}
 use Rattle.capture.specs.Payloads.{placesFrom, payloads, startCursor, stepOf}
 use Rattle.capture.proofs.Steps.{step-end, step-payload, step-on}
-use Rattle.c_capture.specs.Capture.{nextTold, tellStep, movedTo, tellNext}
+use Rattle.c_capture.specs.Capture.{nextTold, tellStep, movedOn, tellNext}
 
 -- Where the walk stands, it stands after the file header.
 after-header : (at : ℕ) → 24 ≤ cond (ltb at 24) 24 at
@@ -31,7 +31,7 @@ after-header at =
 module _ (reading : Reading) (port : ℕ) (bytes : List ℕ) where
   -- the walk's cursor at a place
   abbrev cursorAt : ℕ → Cursor
-  cursorAt at = movedTo (startCursor reading port bytes) at
+  cursorAt at = movedOn (startCursor reading port bytes) at
 
   -- The payloads to come at a place: none where the capture is refused.
   abbrev pub accepted : List Place → List Place

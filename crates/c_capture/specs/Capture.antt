@@ -9,9 +9,10 @@ use Rattle.capture.specs.declared.walk.Cursor.{Cursor}
 use Rattle.capture.specs.declared.walk.Step.{Step}
 use Rattle.capture.specs.declared.walk.Step.the-variants.{Payload, End}
 use Rattle.savefile.specs.Savefile.{checks}
-use Rattle.capture.specs.Payloads.{placeOf, startCursor, stepOf}
+use Rattle.capture.specs.Payloads.{placeOf, startCursor, movedTo, stepOf}
 
--- The number that the capture's checks give, and the start and the length of the payload of a rank: 0 and 0 where there is none.
+-- The number that the capture's checks give, and the start and the length of the payload of a rank: 0 and 0 where there
+-- is none.
 pub data PlaceTold : Type 0 where
   placeTold : ℕ → ℕ → ℕ → PlaceTold
 
@@ -32,9 +33,9 @@ tellStep at End = noNext at
 tellStep at (Payload place next) = nextTold true (next .at) (place .start) (place .len)
 
 -- A cursor moved on to a place. A place before the cursor's, such as 0, stands for the cursor's.
-abbrev pub movedTo : Cursor → ℕ → Cursor
-movedTo cursor at = record { at = cond (ltb at (cursor .at)) (cursor .at) at; port = cursor .port; reading = cursor .reading; «big_endian» = cursor .«big_endian» }
+abbrev pub movedOn : Cursor → ℕ → Cursor
+movedOn cursor at = movedTo cursor (cond (ltb at (cursor .at)) (cursor .at) at)
 
 unfoldable pub tellNext : Reading → ℕ → List ℕ → ℕ → NextTold
 tellNext reading port bytes at =
-    cond (eqb (firstRefusal (checks reading bytes)) 0) (tellStep at (stepOf (movedTo (startCursor reading port bytes) at) bytes)) (noNext at)
+    cond (eqb (firstRefusal (checks reading bytes)) 0) (tellStep at (stepOf (movedOn (startCursor reading port bytes) at) bytes)) (noNext at)

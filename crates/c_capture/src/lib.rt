@@ -10,7 +10,7 @@ ghost use Rattle.points.specs.ReadInto.{firstRefusal};
 ghost use Rattle.record_rule.specs.Reading.{usual};
 ghost use Rattle.savefile.specs.Savefile.{checks};
 ghost use Rattle.c_form.specs.Reading.{readingOf};
-ghost use Rattle.c_capture.specs.Capture.{movedTo, placeTold, tellPlace, nextTold, tellNext};
+ghost use Rattle.c_capture.specs.Capture.{movedOn, placeTold, tellPlace, nextTold, tellNext};
 
 #[no_mangle]
 pub extern "C" fn lidar_payload_place_as(
@@ -107,7 +107,7 @@ fn tell_next(
     let Opened::Walk(cursor) = capture::open_as(data, reading, port) else {
         return false;
     };
-    let Step::Payload(place, next) = moved(cursor, *at).step(data) else {
+    let Step::Payload(place, next) = moved_on(cursor, *at).step(data) else {
         return false;
     };
     *at = next.at;
@@ -117,13 +117,12 @@ fn tell_next(
 }
 
 // The cursor moved on to a place. A place before it means its own.
-fn moved(cursor: Cursor, at: usize) -> Cursor
-    ensures { λ r. ⌜ r ≡ movedTo cursor at ⌝ }
+fn moved_on(cursor: Cursor, at: usize) -> Cursor
+    ensures { λ r. ⌜ r ≡ movedOn cursor at ⌝ }
 {
-    Cursor {
-        at: if at < cursor.at { cursor.at } else { at },
-        port: cursor.port,
-        reading: cursor.reading,
-        big_endian: cursor.big_endian,
+    if at < cursor.at {
+        cursor
+    } else {
+        cursor.moved_to(at)
     }
 }

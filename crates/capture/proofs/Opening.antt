@@ -13,9 +13,9 @@ use Rattle.capture.specs.declared.walk.Cursor.{Cursor}
 use Rattle.capture.specs.Payloads.{opening, startCursor}
 
 module _ (reading : Reading) (port : ℕ) (bytes : List ℕ) where
-  -- The file header's answer, with a cursor for the byte order.
+  -- The file header's answer, with a cursor where it accepts.
   abbrev withCursor : ℕ × List Bool → ℕ × List Cursor
-  withCursor told = (told .0, map (λ (big : Bool). record { at = 24; port = port; reading = reading; «big_endian» = big }) (told .1))
+  withCursor told = (told .0, map (λ (big : Bool). startCursor reading port bytes) (told .1))
 
   pub by-header : (told : ℕ × List Bool) → told ≡ fileHeader reading bytes → withCursor told ≡ opening reading port bytes
   unfolding opening fileHeader

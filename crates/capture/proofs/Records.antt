@@ -1,45 +1,47 @@
--- From a place on the walk ends, or has what the record there holds and goes on after it. Assumes nothing.
+-- From a place on the walk ends, or has what the record there yields and goes on after it. Assumes nothing.
 use Prim.Native.Nat.{ℕ, _+_, _-_, _≤_, _<_}
 use native.Mathlib.Omega.{arith}
-use mathlib.Core.Path.{_≡_, _∙_}
+use mathlib.Core.Path.{_≡_, ap, _∙_, subst}
 use mathlib.Core.Bool.{Bool}
-use mathlib.Core.List.{List, [], _++_, flatMap}
-use lib.ListN.{length, take, drop, length-take, length-drop}
+use mathlib.Core.List.{List, [], _∷_, _++_, flatMap}
+use lib.ListN.{length, take, drop}
+use Rattle.record_rule.specs.declared.Record.{Record}
 use Rattle.record_rule.specs.declared.reading.Reading.{Reading}
-use Rattle.record_rule.specs.declared.rule.Start.the-variants.{At, Nothing}
+use Rattle.record_rule.specs.declared.rule.Start.{Start}
+use Rattle.record_rule.specs.declared.rule.Start.the-variants.{At}
+use Rattle.record_rule.specs.Captured.{recordBytes, recordEnd}
 use Rattle.record_rule.specs.Record.{verdict, startOf}
-use Rattle.savefile.specs.Savefile.{RecordAt, capturedAt, orderOf}
+use Rattle.record_rule.proofs.Inside.{Inside, inside-length}
+use Rattle.record_rule.proofs.Tests.{payload-inside}
+use Rattle.savefile.specs.Savefile.{recordAt, allRecordsFrom, orderOf}
 use Rattle.savefile.proofs.Records.{past, onward}
-use Rattle.capture.specs.Payloads.{recordBytes, ofStart, foundIn, foundFrom}
+use Rattle.capture.specs.Payloads.{yieldAt, yieldOf, yieldsFrom}
 
 module _ (reading : Reading) (big : Bool) (port : ℕ) (bytes : List ℕ) (at : ℕ) where
-  pub at-end : length bytes < at + 16 + capturedAt (orderOf big) bytes at → foundFrom reading big port bytes at ≡ []
-  unfolding foundFrom flatMap
+  pub at-end : length bytes < recordEnd (recordAt (orderOf big) bytes at) → yieldsFrom reading big port bytes at ≡ []
+  unfolding yieldsFrom flatMap
   at-end h = rw (past (orderOf big) bytes (length bytes) at h)
 
-  -- n bytes were captured, and code lends them
-  module _ (n : ℕ) (e : n ≡ capturedAt (orderOf big) bytes at) (h : at + 16 + n ≤ length bytes) where
+  -- the record that is there, and code lends its bytes
+  module _ (r : Record) (e : r ≡ recordAt (orderOf big) bytes at) (h : Inside bytes r) where
+    pub further : at < recordEnd r
+    further = rw e (omega arith)
+
     abbrev lent : List ℕ
-    lent = take (at + 16 + n - (at + 16)) (drop (at + 16) bytes)
+    lent = take (recordEnd r - r .body) (drop (r .body) bytes)
 
-    abbrev here : RecordAt
-    here = record { header = at; captured = n }
+    lent-is : lent ≡ recordBytes bytes r
+    lent-is = let long : recordEnd r - r .body ≡ r .len = omega arith in rw long
 
-    at-record : foundFrom reading big port bytes at ≡ foundIn reading port bytes here ++ foundFrom reading big port bytes (at + 16 + n)
-    unfolding foundFrom flatMap
-    at-record = rw (onward (orderOf big) bytes (length bytes) at n (omega arith) e h)
+    -- what the rule says of it decides what it yields
+    pub at-record : (s : Start) → startOf (verdict reading port lent) ≡ s → yieldsFrom reading big port bytes at ≡ yieldAt r s ++ yieldsFrom reading big port bytes (recordEnd r)
+    unfolding yieldsFrom yieldOf flatMap
+    at-record s rule =
+        let all : allRecordsFrom (orderOf big) bytes at ≡ r ∷ allRecordsFrom (orderOf big) bytes (recordEnd r) = rw e (onward (orderOf big) bytes (length bytes) at (omega arith) (subst (Inside bytes) e h)) in
+        rw (all, ← rule, lent-is)
 
-    lent-is : lent ≡ recordBytes bytes here
-    lent-is = let long : at + 16 + n - (at + 16) ≡ n = omega arith in rw long
-
-    pub lent-long : length lent ≡ n
-    lent-long = simp (length-take, length-drop) (omega arith)
-
-    pub passed-over : startOf (verdict reading port lent) ≡ Nothing → foundFrom reading big port bytes at ≡ foundFrom reading big port bytes (at + 16 + n)
-    unfolding foundIn
-    passed-over s = at-record ∙ rw (← lent-is, s)
-
-    pub handed-over : (from : ℕ) → startOf (verdict reading port lent) ≡ At from
-        → foundFrom reading big port bytes at ≡ ofStart here (At from) ++ foundFrom reading big port bytes (at + 16 + n)
-    unfolding foundIn
-    handed-over from s = at-record ∙ rw (← lent-is, s)
+    pub in-record : (start len : ℕ) → startOf (verdict reading port lent) ≡ At start len → (start + len ≤ r .len) × (0 < len)
+    in-record start len rule =
+        let within = payload-inside reading port lent start len rule in
+        let long = ap length lent-is ∙ inside-length bytes r h in
+        (omega arith, within .1)

@@ -2,12 +2,14 @@
 
 use points::Refusal;
 use record_rule::Reading;
+use record_rule::Record;
 use record_rule::Start;
-use savefile::Captured;
 use savefile::FileHeader;
+use savefile::Recorded;
 ghost use mathlib.Core.Path.{_≡_};
+ghost use Prim.Native.Nat.{_+_, _≤_};
 ghost use Rattle.record_rule.specs.Reading.{usual};
-ghost use Rattle.capture.specs.Payloads.{opening, openedAs, stepOf};
+ghost use Rattle.capture.specs.Payloads.{placeIn, movedTo, opening, ofOpened, stepOf};
 
 // Where a payload stands: its record's header, its first byte, and its length.
 pub struct Place {
@@ -36,7 +38,7 @@ pub enum Step {
 
 // Starts a walk for the payloads on a port; 0 asks for every port.
 pub fn open_as(data: &[u8], reading: Reading, port: u16) -> Opened
-    ensures { λ r. ⌜ openedAs r ≡ opening reading port (now («data» .entry)) ⌝ }
+    ensures { λ r. ⌜ ofOpened r ≡ opening reading port (now («data» .entry)) ⌝ }
 {
     match savefile::file_header(data, reading) {
         FileHeader::Accepted(big_endian) => Opened::Walk(Cursor {
@@ -50,12 +52,20 @@ pub fn open_as(data: &[u8], reading: Reading, port: u16) -> Opened
 }
 
 pub fn open(data: &[u8], port: u16) -> Opened
-    ensures { λ r. ⌜ openedAs r ≡ opening usual port (now («data» .entry)) ⌝ }
+    ensures { λ r. ⌜ ofOpened r ≡ opening usual port (now («data» .entry)) ⌝ }
 {
     open_as(data, Reading::usual(), port)
 }
 
 impl Cursor {
+    // The cursor at another place.
+    pub fn moved_to(mut self, at: usize) -> Self
+        ensures { λ r. ⌜ r ≡ movedTo self at ⌝ }
+    {
+        self.at = at;
+        self
+    }
+
     // The next payload, and the cursor after its record.
     pub fn step(self, data: &[u8]) -> Step
         ensures { λ r. ⌜ r ≡ stepOf self (now («data» .entry)) ⌝ }
@@ -65,27 +75,28 @@ impl Cursor {
         let big_endian = self.big_endian;
         let mut at = self.at;
         loop {
-            let Captured::Bytes(captured) = savefile::captured_at(data, at, big_endian) else {
+            let Recorded::Whole(record) = savefile::record_at(data, at, big_endian) else {
                 return Step::End;
             };
-            let start = at + savefile::RECORD_HEADER_LEN;
-            let end = start + captured;
-            if let Start::At(from) = record_rule::judge(&data[start..end], reading, port).start() {
-                return Step::Payload(
-                    Place {
-                        header: at,
-                        start: start + from,
-                        len: captured - from,
-                    },
-                    Cursor {
-                        at: end,
-                        port,
-                        reading,
-                        big_endian,
-                    },
-                );
+            let body = record.body;
+            let end = body + record.len;
+            let verdict = record_rule::judge(&data[body..end], reading, port);
+            if let Start::At(start, len) = verdict.start() {
+                return Step::Payload(place_in(record, start, len), self.moved_to(end));
             }
             at = end;
         }
+    }
+}
+
+// A payload's place, by where it starts in its record.
+fn place_in(record: Record, start: usize, len: usize) -> Place
+    requires { ⌜ «record» .body + start ≤ 18446744073709551615 ⌝ }
+    ensures { λ r. ⌜ r ≡ placeIn «record» start len ⌝ }
+{
+    Place {
+        header: record.header,
+        start: record.body + start,
+        len,
     }
 }

@@ -1,5 +1,6 @@
--- The worked cases of captures: 24 good bytes; a record of 42 bytes, and of 43; tagged, of 46 and of 47; the length bytes 2b 00 00 00. Beside them, captures that
--- are refused, ports, and more records than one. Each row names its reading.
+-- The worked cases of captures: 24 good bytes; a record of 42 bytes, and of 43; tagged, of 46 and of 47; the length
+-- bytes 2b 00 00 00. Beside them, captures that are refused, ports, and more records than one. Each row names its
+-- reading.
 use Prim.Native.Nat.{ℕ}
 use mathlib.Core.List.{List, [], _∷_, _++_}
 use lib.ListN.{take}
@@ -7,7 +8,8 @@ use Rattle.record_rule.specs.declared.reading.Reading.the-variants.{Rust, Savef
 use Rattle.claims.specs.Call.{capture, firstLength, payload, payloads, lengthStated}
 use Rattle.claims.specs.Row.{Row, _tells_, dump}
 
--- File headers, by the magic's first byte as it stands in the file: version 2.4, Ethernet. For microseconds, then for nanoseconds.
+-- File headers, by the magic's first byte as it stands in the file: version 2.4, Ethernet. For microseconds, then for
+-- nanoseconds.
 unfoldable pub fileD4 : List ℕ
 unfolding dump
 fileD4 = dump 24 0xd4c3b2a1_02000400_00000000_00000000_00000400_01000000
@@ -29,7 +31,8 @@ header : ℕ → List ℕ
 unfolding dump
 header n = dump 8 0x01000000_02000000 ++ n ∷ 0 ∷ 0 ∷ 0 ∷ n ∷ 0 ∷ 0 ∷ 0 ∷ []
 
--- Ethernet addresses, then an IPv4 header of IHL 5 and a UDP header for port 2368, both with true lengths: without a payload, and with the byte ab.
+-- Ethernet addresses, then an IPv4 header of IHL 5 and a UDP header for port 2368, both with true lengths: without a
+-- payload, and with the byte ab.
 addresses : List ℕ
 unfolding dump
 addresses = dump 12 0xffffffffffff_60768801c901
@@ -73,7 +76,8 @@ captureRows =
     ∷ capture Rust 0 fileA1 tells payloads 0 []
     ∷ capture Rust 0 file4d tells payloads 0 []
     ∷ capture Rust 0 fileA1Nanoseconds tells payloads 0 []
-    -- IHL 5, untagged: a record of 42 bytes gives nothing, 43 gives one byte. The Rust's reading takes these lengths after the reversed magic.
+    -- IHL 5, untagged: a record of 42 bytes gives nothing, 43 gives one byte. The Rust's reading takes these lengths
+    -- after the reversed magic.
     ∷ capture Savefile 0 (fileD4 ++ record42) tells payloads 0 []
     ∷ capture Savefile 0 (fileD4 ++ record43) tells payloads 0 (payload 24 82 (0xab ∷ []) ∷ [])
     ∷ capture Rust 0 (fileA1 ++ record42) tells payloads 0 []
@@ -83,7 +87,8 @@ captureRows =
     ∷ capture Savefile 0 (fileD4 ++ record47) tells payloads 0 (payload 24 86 (0xab ∷ []) ∷ [])
     ∷ capture Rust 0 (fileA1 ++ record46) tells payloads 0 []
     ∷ capture Rust 0 (fileA1 ++ record47) tells payloads 0 (payload 24 86 (0xab ∷ []) ∷ [])
-    -- First bytes d4 c3 b2 a1, length bytes 2b 00 00 00: the savefile reading has a record of 43 bytes, as above. By the Rust's reading it runs past the data.
+    -- First bytes d4 c3 b2 a1, length bytes 2b 00 00 00: the savefile reading has a record of 43 bytes, as above. By
+    -- the Rust's reading it runs past the data.
     ∷ firstLength Savefile (fileD4 ++ record43) tells lengthStated 43
     ∷ firstLength Rust (fileD4 ++ record43) tells lengthStated 721420288
     ∷ capture Rust 0 (fileD4 ++ record43) tells payloads 0 []

@@ -1,8 +1,8 @@
 -- The record's rule, case by case: the tests in their order, each by what the ones before it and it itself say. Assumes nothing.
-use Prim.Native.Nat.{ℕ, _+_, _*_, _/_, _%_, _≤_, _<_}
+use Prim.Native.Nat.{ℕ, _+_, _-_, _*_, _/_, _%_, _≤_, _<_}
 use native.Mathlib.Nat.{mul-comm}
 use native.Mathlib.Omega.{arith}
-use mathlib.Core.Path.{_≡_, refl, sym, ap, _∙_}
+use mathlib.Core.Path.{_≡_, refl, ap}
 use mathlib.Core.Bool.{Bool, true, false, not, _&&_, cond}
 use mathlib.Core.List.{List, [], _∷_, _++_}
 use lib.Dec.{leb, ltb, eqb}
@@ -12,11 +12,11 @@ use Rattle.fields.specs.Number.{big, unsignedAt}
 use Rattle.record_rule.specs.declared.reading.Reading.{Reading}
 use Rattle.record_rule.specs.declared.rule.Start.the-variants.{At, Nothing}
 use Rattle.record_rule.specs.declared.rule.Verdict.{Verdict}
-use Rattle.record_rule.specs.declared.rule.Verdict.the-variants.{TooShort, NotIpv4, WrongVersion, NotUdp, ShortIpHeader, UdpPastEnd, OtherPort, NothingFollows, Payload}
+use Rattle.record_rule.specs.declared.rule.Verdict.the-variants.{ShortRecord, NotIpv4, WrongVersion, NotUdp, ShortIpHeader, UdpPastEnd, OtherPort, NothingFollows}
 use Rattle.record_rule.specs.Ethernet.{typeAt, etherType, ipStart}
 use Rattle.record_rule.specs.Ipv4.{version, ihl, protocol, udpStart}
-use Rattle.record_rule.specs.Udp.{destinationPort, payloadStart}
-use Rattle.record_rule.specs.Record.{asksIhl, startOf, firstThat, ipTests, udpTests, verdict}
+use Rattle.record_rule.specs.Udp.{destinationPort, payloadStart, payloadLen}
+use Rattle.record_rule.specs.Record.{asksIhl, startOf, firstThat, ipTests, udpTests, payloadOf, verdict}
 
 -- ---- the places that code computes
 pub type-small : (bytes : List ℕ) → typeAt bytes ≤ 16
@@ -61,10 +61,14 @@ module _ (bytes : List ℕ) (ip words : ℕ) (i : ip ≡ ipStart bytes) (w : wor
   unfolding payloadStart
   start-is = ap (λ (n : ℕ). n + 8) udp-is
 
+  pub len-is : (reading : Reading) → length bytes - (ip + words * 4 + 8) ≡ payloadLen reading bytes
+  unfolding payloadLen
+  len-is reading = ap (λ (n : ℕ). length bytes - n) start-is
+
 -- ---- the tests from the IP header on
 module _ (reading : Reading) (port : ℕ) (bytes : List ℕ) where
   abbrev told : Verdict
-  told = firstThat (udpTests reading port bytes) (Payload (payloadStart bytes))
+  told = firstThat (udpTests reading port bytes) (payloadOf reading bytes)
 
   pub short-header : (asksIhl reading && ltb (ihl bytes) 5) ≡ true → ShortIpHeader ≡ told
   unfolding firstThat udpTests
@@ -85,15 +89,15 @@ module _ (reading : Reading) (port : ℕ) (bytes : List ℕ) where
         unfolding firstThat udpTests
         nothing-follows d = rw (a, b, c, d)
 
-        pub payload : leb (length bytes) (payloadStart bytes) ≡ false → Payload (payloadStart bytes) ≡ told
+        pub payload : leb (length bytes) (payloadStart bytes) ≡ false → payloadOf reading bytes ≡ told
         unfolding firstThat udpTests
         payload d = rw (a, b, c, d)
 
 -- ---- the tests up to the IP header
 module _ (reading : Reading) (port : ℕ) (bytes : List ℕ) where
-  pub too-short : ltb (length bytes) 42 ≡ true → TooShort ≡ verdict reading port bytes
+  pub short-record : ltb (length bytes) 42 ≡ true → ShortRecord ≡ verdict reading port bytes
   unfolding verdict firstThat ipTests
-  too-short a = rw a
+  short-record a = rw a
 
   module _ (a : ltb (length bytes) 42 ≡ false) where
     pub not-ipv4 : eqb (etherType bytes) 0x0800 ≡ false → NotIpv4 ≡ verdict reading port bytes
@@ -114,7 +118,7 @@ module _ (reading : Reading) (port : ℕ) (bytes : List ℕ) where
         unfolding verdict firstThat ipTests
         from-ip d = rw (a, b, c, d)
 
--- ---- a payload starts inside its record
+-- ---- a payload lies inside its record, and is not empty
 
 -- none of the tests is a payload; none applies
 abbrev NoPayload : List (Verdict × Bool) → Type 0
@@ -125,21 +129,23 @@ abbrev NoneApplies : List (Verdict × Bool) → Type 0
 NoneApplies [] = Unit
 NoneApplies (test ∷ tests) = (test .1 ≡ false) × NoneApplies tests
 
-past : (v rest : Verdict) (b : Bool) (from : ℕ) → startOf v ≡ Nothing → startOf (cond b v rest) ≡ At from → (b ≡ false) × (startOf rest ≡ At from)
-past v rest true from n h = let never : _≡_ {A = ℕ} 0 1 = cc in absurd (omega arith)
-past v rest false from n h = (refl, h)
+past : (v rest : Verdict) (b : Bool) (start len : ℕ) → startOf v ≡ Nothing → startOf (cond b v rest) ≡ At start len → (b ≡ false) × (startOf rest ≡ At start len)
+past v rest true start len n h = let never : _≡_ {A = ℕ} 0 1 = cc in absurd (omega arith)
+past v rest false start len n h = (refl, h)
 
-all-past : (tests : List (Verdict × Bool)) (otherwise : Verdict) (from : ℕ) → NoPayload tests → startOf (firstThat tests otherwise) ≡ At from → NoneApplies tests × (startOf otherwise ≡ At from)
+all-past : (tests : List (Verdict × Bool)) (otherwise : Verdict) (start len : ℕ) → NoPayload tests → startOf (firstThat tests otherwise) ≡ At start len → NoneApplies tests × (startOf otherwise ≡ At start len)
 unfolding firstThat
-all-past [] otherwise from n h = (tt, h)
-all-past (test ∷ tests) otherwise from n h =
-    let one = past (test .0) (firstThat tests otherwise) (test .1) from (n .0) h in
-    let rest = all-past tests otherwise from (n .1) (one .1) in
+all-past [] otherwise start len n h = (tt, h)
+all-past (test ∷ tests) otherwise start len n h =
+    let one = past (test .0) (firstThat tests otherwise) (test .1) start len (n .0) h in
+    let rest = all-past tests otherwise start len (n .1) (one .1) in
     ((one .0, rest .0), rest .1)
 
-pub start-inside : (reading : Reading) (port : ℕ) (bytes : List ℕ) (from : ℕ) → startOf (verdict reading port bytes) ≡ At from → from < length bytes
-unfolding verdict ipTests udpTests
-start-inside reading port bytes from h =
-    let all = all-past (ipTests bytes ++ udpTests reading port bytes) (Payload (payloadStart bytes)) from (refl, (refl, (refl, (refl, (refl, (refl, (refl, (refl, tt)))))))) h in
-    let is : payloadStart bytes ≡ from = cc (all .1) in
-    omega (arith, leb-false (length bytes) (payloadStart bytes) (all .0 .1 .1 .1 .1 .1 .1 .1 .0))
+pub payload-inside : (reading : Reading) (port : ℕ) (bytes : List ℕ) (start len : ℕ) → startOf (verdict reading port bytes) ≡ At start len → (start + len ≤ length bytes) × (0 < len)
+unfolding verdict ipTests udpTests payloadLen
+payload-inside reading port bytes start len h =
+    let all = all-past (ipTests bytes ++ udpTests reading port bytes) (payloadOf reading bytes) start len (refl, (refl, (refl, (refl, (refl, (refl, (refl, (refl, tt)))))))) h in
+    let from : payloadStart bytes ≡ start = cc (all .1) in
+    let long : length bytes - payloadStart bytes ≡ len = cc (all .1) in
+    let follows = leb-false (length bytes) (payloadStart bytes) (all .0 .1 .1 .1 .1 .1 .1 .1 .0) in
+    (omega arith, omega arith)

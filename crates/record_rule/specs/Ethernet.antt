@@ -1,4 +1,5 @@
--- IEEE 802.3 and 802.1Q: the EtherType stands at 12, or at 16 after one tag, whose type is 0x8100. The IP header follows it.
+-- IEEE 802.3 and 802.1Q: the EtherType stands at 12, or at 16 after one tag, whose type is 0x8100. The IP header
+-- follows it.
 use Prim.Native.Nat.{ℕ, _+_}
 use mathlib.Core.Bool.{cond}
 use mathlib.Core.List.{List}

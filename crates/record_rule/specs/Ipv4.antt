@@ -1,5 +1,7 @@
--- RFC 791: the version and the header's length in words of four bytes (IHL) share the first byte; the protocol stands at 9. The UDP header
--- starts four times the IHL after the IP header's start; with an IHL below 5, which only the Rust's reading takes, that lies inside the IP header. Neither reading looks at the total length, the fragment fields or the checksum.
+-- RFC 791: the version and the header's length in words of four bytes (IHL) share the first byte; the protocol stands
+-- at 9. The UDP header starts four times the IHL after the IP header's start; with an IHL below 5, which only the
+-- Rust's reading takes, that lies inside the IP header. Neither reading looks at the total length, the fragment fields
+-- or the checksum.
 use Prim.Native.Nat.{ℕ, _+_, _*_, _/_, _%_}
 use mathlib.Core.List.{List}
 use lib.ListN.{getD}

@@ -1,4 +1,5 @@
--- What a record means: the steps from its bytes to its UDP payload, in each reading.
+-- What a record means: its bytes, and the steps from them to its UDP payload, in each reading.
+pub mod Captured
 pub mod Ethernet
 pub mod Ipv4
 pub mod Reading

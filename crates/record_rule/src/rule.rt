@@ -10,12 +10,11 @@ ghost use lib.ListN.{length};
 ghost use Rattle.fields.specs.Number.{big, unsignedAt};
 ghost use Rattle.record_rule.specs.Ethernet.{typeAt, ipStart};
 ghost use Rattle.record_rule.specs.Ipv4.{ihl};
-ghost use Rattle.record_rule.specs.Udp.{payloadStart};
-ghost use Rattle.record_rule.specs.Record.{asksIhl, firstThat, udpTests, verdict, startOf};
+ghost use Rattle.record_rule.specs.Record.{asksIhl, firstThat, udpTests, payloadOf, verdict, startOf};
 
-// What becomes of a record: the test that passes it over, or where its payload starts in it.
+// What becomes of a record: the test that passes it over, or where its payload starts in it and how long it is.
 pub enum Verdict {
-    TooShort,
+    ShortRecord,
     NotIpv4,
     WrongVersion,
     NotUdp,
@@ -23,12 +22,12 @@ pub enum Verdict {
     UdpPastEnd,
     OtherPort,
     NothingFollows,
-    Payload(usize),
+    Payload(usize, usize),
 }
 
-// Where the payload starts in its record.
+// Where the payload starts in its record, and how long it is.
 pub enum Start {
-    At(usize),
+    At(usize, usize),
     Nothing,
 }
 
@@ -37,7 +36,7 @@ impl Verdict {
         ensures { λ r. ⌜ r ≡ startOf self ⌝ }
     {
         match self {
-            Verdict::Payload(from) => Start::At(from),
+            Verdict::Payload(start, len) => Start::At(start, len),
             _ => Start::Nothing,
         }
     }
@@ -47,7 +46,7 @@ pub fn judge(bytes: &[u8], reading: Reading, port: u16) -> Verdict
     ensures { λ r. ⌜ r ≡ verdict reading port (now (bytes .entry)) ⌝ }
 {
     if bytes.len() < 42 {
-        return Verdict::TooShort;
+        return Verdict::ShortRecord;
     }
     let type_at = type_at(bytes);
     if u16_at(bytes, type_at) != 0x0800 {
@@ -67,7 +66,7 @@ pub fn judge(bytes: &[u8], reading: Reading, port: u16) -> Verdict
 // The tests from the IP header on.
 fn judge_udp(bytes: &[u8], ip: usize, words: usize, reading: Reading, port: u16) -> Verdict
     requires { ⌜ (42 ≤ length (now bytes)) × (ip ≡ ipStart (now bytes)) × (ip ≤ 18) × (words ≡ ihl (now bytes)) × (words < 16) ⌝ }
-    ensures { λ r. ⌜ r ≡ firstThat (udpTests reading port (now (bytes .entry))) (Verdict.Payload (payloadStart (now (bytes .entry)))) ⌝ }
+    ensures { λ r. ⌜ r ≡ firstThat (udpTests reading port (now (bytes .entry))) (payloadOf reading (now (bytes .entry))) ⌝ }
 {
     if refuses_ihl(reading, words) {
         return Verdict::ShortIpHeader;
@@ -83,7 +82,8 @@ fn judge_udp(bytes: &[u8], ip: usize, words: usize, reading: Reading, port: u16)
     if bytes.len() <= start {
         return Verdict::NothingFollows;
     }
-    Verdict::Payload(start)
+    let len = bytes.len() - start;
+    Verdict::Payload(start, len)
 }
 
 fn refuses_ihl(reading: Reading, words: usize) -> bool

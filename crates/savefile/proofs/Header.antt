@@ -1,7 +1,7 @@
 -- The file header, case by case: the three checks in their order, then the byte order. Assumes nothing.
 use Prim.Native.Nat.{ℕ, _≤_, _<_}
-use mathlib.Core.Path.{_≡_}
-use mathlib.Core.Bool.{true, false, _||_}
+use mathlib.Core.Path.{_≡_, sym, ap, _∙_}
+use mathlib.Core.Bool.{Bool, true, false, _||_}
 use mathlib.Core.List.{List, [], _∷_}
 use mathlib.Core.Logic.{_⊎_, inl, inr, ⊎-elim}
 use lib.ListN.{length}
@@ -28,6 +28,14 @@ module _ (bytes : List ℕ) (magic : ℕ) (e : magic ≡ unsignedAt big 4 bytes 
       rw (← e, ne-eqb magic 0xd4c3b2a1 (λ x. l (inr x)), ne-eqb magic 0x4d3cb2a1 (λ x. l (inl x)), ne-eqb magic 0xa1b2c3d4 (λ x. m (inr x)), ne-eqb magic 0xa1b23c4d (λ x. m (inl x)))
 
 module _ (reading : Reading) (bytes : List ℕ) where
+  -- What an answer says of the byte order.
+  pub order-told : (told : Bool) → (0, told ∷ []) ≡ fileHeader reading bytes → told ≡ bigEndian reading bytes
+  unfolding fileHeader
+  order-told told e =
+      let none : firstRefusal (checks reading bytes) ≡ 0 = sym (ap (λ (x : ℕ × List Bool). x .0) e) in
+      let one : told ∷ [] ≡ bigEndian reading bytes ∷ [] = ap (λ (x : ℕ × List Bool). x .1) e ∙ rw none in
+      cc
+
   pub too-long : 2147483647 < length bytes → (1, []) ≡ fileHeader reading bytes
   unfolding fileHeader firstRefusal checks fileChecks
   too-long h = rw (lt-ltb 2147483647 (length bytes) h)

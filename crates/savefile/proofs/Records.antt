@@ -1,25 +1,32 @@
--- Laws of the records: the bound on their number is not felt, after a record that is there come the others, and code's test of a record. Assumes nothing.
+-- Laws of the records: the bound on their number is not felt, after a record that is there come the others, each lies inside the data, and code's test of a
+-- record. Assumes nothing.
 use Prim.Native.Nat.{ℕ, zero, suc, _+_, _≤_, _<_}
 use native.Mathlib.Nat.{lt-of-not-le}
 use native.Mathlib.Decide.{decLe}
 use native.Mathlib.Omega.{arith}
-use mathlib.Core.Path.{_≡_, refl, sym, ap}
+use mathlib.Core.Path.{_≡_, refl, sym, ap, _∙_, subst}
 use mathlib.Core.Bool.{Bool, cond}
 use mathlib.Core.List.{List, [], _∷_}
 use lib.Dec.{leb}
 use lib.ListN.{length}
 use borrow.Author.Tests.{le-leb, lt-leb}
 use Rattle.fields.specs.Number.{ByteOrder}
-use Rattle.savefile.specs.declared.Captured.the-variants.{Bytes, PastEnd}
-use Rattle.savefile.specs.Savefile.{RecordAt, capturedAt, recordsFrom, orderOf}
-use Rattle.savefile.specs.Headers.{capturedOf}
+use Rattle.record_rule.specs.declared.Record.{Record}
+use Rattle.record_rule.specs.Captured.{recordEnd}
+use Rattle.record_rule.proofs.Inside.{Inside, AllInside}
+use Rattle.savefile.specs.declared.Recorded.the-variants.{Whole, PastEnd}
+use Rattle.savefile.specs.Savefile.{recordAt, recordsFrom, orderOf}
+use Rattle.savefile.specs.Headers.{recordedAt}
 
--- ---- the bound
 module _ (order : ByteOrder) (bytes : List ℕ) where
-  pub past : (bound at : ℕ) → length bytes < at + 16 + capturedAt order bytes at → recordsFrom bound order bytes at ≡ []
+  pub past : (bound at : ℕ) → length bytes < recordEnd (recordAt order bytes at) → recordsFrom bound order bytes at ≡ []
   unfolding recordsFrom
   past zero at h = refl
-  past (suc bound) at h = rw (lt-leb (at + 16 + capturedAt order bytes at) (length bytes) h)
+  past (suc bound) at h = rw (lt-leb (recordEnd (recordAt order bytes at)) (length bytes) h)
+
+  pub one-more : (bound at : ℕ) → let r = recordAt order bytes at in Inside bytes r → recordsFrom (suc bound) order bytes at ≡ r ∷ recordsFrom bound order bytes (recordEnd r)
+  unfolding recordsFrom
+  one-more bound at h = rw (le-leb (recordEnd (recordAt order bytes at)) (length bytes) h)
 
   -- More than enough is as good as enough.
   pub enough : (b c at : ℕ) → length bytes ≤ at + b → length bytes ≤ at + c → recordsFrom b order bytes at ≡ recordsFrom c order bytes at
@@ -28,38 +35,55 @@ module _ (order : ByteOrder) (bytes : List ℕ) where
   enough zero (suc c) at h k = sym (past (suc c) at (omega arith))
   enough (suc b) zero at h k = past (suc b) at (omega arith)
   enough (suc b) (suc c) at h k =
-      let n = capturedAt order bytes at in
-      let rest : recordsFrom b order bytes (at + 16 + n) ≡ recordsFrom c order bytes (at + 16 + n) = enough b c (at + 16 + n) (omega arith) (omega arith) in
-      ap (λ (t : List RecordAt). cond (leb (at + 16 + n) (length bytes)) (record { header = at; captured = n } ∷ t) []) rest
+      let r = recordAt order bytes at in
+      ap (λ (t : List Record). cond (leb (recordEnd r) (length bytes)) (r ∷ t) []) (enough b c (recordEnd r) (omega arith) (omega arith))
 
   -- After a record that is there the walk goes on, with as large a bound.
-  pub onward : (bound at n : ℕ) → length bytes ≤ bound → n ≡ capturedAt order bytes at → at + 16 + n ≤ length bytes
-      → recordsFrom bound order bytes at ≡ record { header = at; captured = n } ∷ recordsFrom bound order bytes (at + 16 + n)
+  pub onward : (bound at : ℕ) → length bytes ≤ bound → let r = recordAt order bytes at in Inside bytes r → recordsFrom bound order bytes at ≡ r ∷ recordsFrom bound order bytes (recordEnd r)
+  onward zero at l h = absurd (omega arith)
+  onward (suc b) at l h =
+      let r = recordAt order bytes at in
+      one-more b at h ∙ ap (λ (t : List Record). r ∷ t) (enough b (suc b) (recordEnd r) (omega arith) (omega arith))
+
+  -- Each lies inside the data.
+  pub records-inside : (bound at : ℕ) → AllInside bytes (recordsFrom bound order bytes at)
   unfolding recordsFrom
-  onward zero at n l e h = absurd (omega arith)
-  onward (suc b) at n l e h =
-      rw (← e, le-leb (at + 16 + n) (length bytes) h) (ap (λ (t : List RecordAt). record { header = at; captured = n } ∷ t) (enough b (suc b) (at + 16 + n) (omega arith) (omega arith)))
+  records-inside zero at = tt
+  records-inside (suc bound) at =
+      elim (decLe (recordEnd (recordAt order bytes at)) (length bytes)) [
+        | yes h ↦ subst (AllInside bytes) (sym (one-more bound at h)) (h, records-inside bound (recordEnd (recordAt order bytes at)))
+        | no h ↦ subst (AllInside bytes) (sym (past (suc bound) at (lt-of-not-le h))) tt
+      ]
+
+  pub few-records : (bound at : ℕ) → length (recordsFrom bound order bytes at) ≤ bound
+  unfolding recordsFrom
+  few-records zero at = omega arith
+  few-records (suc bound) at =
+      elim (decLe (recordEnd (recordAt order bytes at)) (length bytes)) [
+        | yes h ↦ rw (one-more bound at h) (omega (arith, few-records bound (recordEnd (recordAt order bytes at))))
+        | no h ↦ rw (past (suc bound) at (lt-of-not-le h)) (omega arith)
+      ]
 
 -- ---- the record at a place, by code's test
 module _ (big : Bool) (bytes : List ℕ) (at : ℕ) where
-  abbrev captured : ℕ
-  captured = capturedAt (orderOf big) bytes at
+  abbrev here : Record
+  here = recordAt (orderOf big) bytes at
 
-  pub past-end : length bytes < at + 16 + captured → PastEnd ≡ capturedOf big bytes at
-  unfolding capturedOf
-  past-end h = rw (lt-leb (at + 16 + captured) (length bytes) h)
+  pub past-end : length bytes < recordEnd here → PastEnd ≡ recordedAt big bytes at
+  unfolding recordedAt
+  past-end h = rw (lt-leb (recordEnd here) (length bytes) h)
 
-  pub all-there : at + 16 + captured ≤ length bytes → Bytes captured ≡ capturedOf big bytes at
-  unfolding capturedOf
-  all-there h = rw (le-leb (at + 16 + captured) (length bytes) h)
+  pub whole : Inside bytes here → Whole here ≡ recordedAt big bytes at
+  unfolding recordedAt
+  whole h = rw (le-leb (recordEnd here) (length bytes) h)
 
   -- and back
-  pub is-past : capturedOf big bytes at ≡ PastEnd → length bytes < at + 16 + captured
-  is-past e = lt-of-not-le (λ (h : at + 16 + captured ≤ length bytes). let never : _≡_ {A = ℕ} 0 1 = cc (all-there h) in omega arith)
+  pub is-past : recordedAt big bytes at ≡ PastEnd → length bytes < recordEnd here
+  is-past e = lt-of-not-le (λ (h : recordEnd here ≤ length bytes). let never : _≡_ {A = ℕ} 0 1 = cc (whole h) in omega arith)
 
-  pub is-there : (n : ℕ) → capturedOf big bytes at ≡ Bytes n → (n ≡ captured) × (at + 16 + captured ≤ length bytes)
-  is-there n e =
-      elim (decLe (at + 16 + captured) (length bytes)) [
-        | yes h ↦ (cc (all-there h), h)
+  pub is-whole : (r : Record) → recordedAt big bytes at ≡ Whole r → (r ≡ here) × Inside bytes r
+  is-whole r e =
+      elim (decLe (recordEnd here) (length bytes)) [
+        | yes h ↦ let is : r ≡ here = cc (whole h) in (is, rw is h)
         | no h ↦ absurd (let never : _≡_ {A = ℕ} 0 1 = cc (past-end (lt-of-not-le h)) in omega arith)
       ]

@@ -1,5 +1,5 @@
 -- What code tells of a header.
-use Prim.Native.Nat.{ℕ, _+_}
+use Prim.Native.Nat.{ℕ}
 use mathlib.Core.Bool.{Bool, cond}
 use mathlib.Core.List.{List, [], _∷_}
 use lib.Dec.{leb, eqb}
@@ -7,11 +7,12 @@ use lib.ListN.{length}
 use Rattle.answers.specs.Answer.{refusalNumber}
 use Rattle.points.specs.ReadInto.{firstRefusal}
 use Rattle.record_rule.specs.declared.reading.Reading.{Reading}
-use Rattle.savefile.specs.declared.Captured.{Captured}
-use Rattle.savefile.specs.declared.Captured.the-variants.{Bytes, PastEnd}
+use Rattle.record_rule.specs.Captured.{recordEnd}
 use Rattle.savefile.specs.declared.FileHeader.{FileHeader}
 use Rattle.savefile.specs.declared.FileHeader.the-variants.{Accepted, Refused}
-use Rattle.savefile.specs.Savefile.{capturedAt, bigEndian, orderOf, checks}
+use Rattle.savefile.specs.declared.Recorded.{Recorded}
+use Rattle.savefile.specs.declared.Recorded.the-variants.{Whole, PastEnd}
+use Rattle.savefile.specs.Savefile.{recordAt, bigEndian, orderOf, checks}
 
 -- The file header gives a number and, where that is 0, whether the records' lengths are big-endian.
 unfoldable pub fileHeader : Reading → List ℕ → ℕ × List Bool
@@ -20,12 +21,12 @@ fileHeader reading bytes =
     (n, cond (eqb n 0) (bigEndian reading bytes ∷ []) [])
 
 -- What code's answer stands for.
-abbrev pub fileHeaderAs : FileHeader → ℕ × List Bool
-fileHeaderAs (Accepted big) = (0, big ∷ [])
-fileHeaderAs (Refused refusal) = (refusalNumber refusal, [])
+abbrev pub ofFileHeader : FileHeader → ℕ × List Bool
+ofFileHeader (Accepted big) = (0, big ∷ [])
+ofFileHeader (Refused refusal) = (refusalNumber refusal, [])
 
--- How many bytes the record at a place captured, where all of them are there.
-unfoldable pub capturedOf : Bool → List ℕ → ℕ → Captured
-capturedOf big bytes at =
-    let captured = capturedAt (orderOf big) bytes at in
-    cond (leb (at + 16 + captured) (length bytes)) (Bytes captured) PastEnd
+-- The record at a place, where all of it is there.
+unfoldable pub recordedAt : Bool → List ℕ → ℕ → Recorded
+recordedAt big bytes at =
+    let r = recordAt (orderOf big) bytes at in
+    cond (leb (recordEnd r) (length bytes)) (Whole r) PastEnd

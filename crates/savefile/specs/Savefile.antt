@@ -1,4 +1,5 @@
--- The libpcap savefile format: a file header of 24 bytes, then records of a 16-byte header and the captured bytes. Neither reading looks at the version or the link type.
+-- The libpcap savefile format: a file header of 24 bytes, then records of a 16-byte header and the captured bytes.
+-- Neither reading looks at the version or the link type.
 use Prim.Native.Nat.{ℕ, zero, suc, _+_}
 use mathlib.Core.Bool.{Bool, true, false, cond, not, _||_}
 use mathlib.Core.List.{List, [], _∷_}
@@ -6,11 +7,13 @@ use lib.Dec.{leb, ltb, eqb}
 use lib.ListN.{length}
 use Rattle.fields.specs.Number.{ByteOrder, little, big, unsignedAt}
 use Rattle.points.specs.ReadInto.{Check, tooLong}
+use Rattle.record_rule.specs.declared.Record.{Record}
 use Rattle.record_rule.specs.declared.reading.Reading.{Reading}
 use Rattle.record_rule.specs.declared.reading.Reading.the-variants.{Rust, Savefile}
+use Rattle.record_rule.specs.Captured.{recordEnd}
 
--- The magic's four bytes as they stand in the file, for microseconds and for nanoseconds. They are read as big-endian only so that the digits here stand as the
--- bytes do there.
+-- The magic's four bytes as they stand in the file, for microseconds and for nanoseconds. They are read as big-endian
+-- only so that the digits here stand as the bytes do there.
 -- d4 c3 b2 a1 and 4d 3c b2 a1
 unfoldable pub leastFirstMagic : List ℕ → Bool
 leastFirstMagic bytes = eqb (unsignedAt big 4 bytes 0) 0xd4c3b2a1 || eqb (unsignedAt big 4 bytes 0) 0x4d3cb2a1
@@ -19,7 +22,8 @@ leastFirstMagic bytes = eqb (unsignedAt big 4 bytes 0) 0xd4c3b2a1 || eqb (unsign
 unfoldable pub mostFirstMagic : List ℕ → Bool
 mostFirstMagic bytes = eqb (unsignedAt big 4 bytes 0) 0xa1b2c3d4 || eqb (unsignedAt big 4 bytes 0) 0xa1b23c4d
 
--- Whether a record's length is big-endian. The format writes the magic in the file's own byte order; the Rust takes it the other way round.
+-- Whether a record's length is big-endian. The format writes the magic in the file's own byte order; the Rust takes it
+-- the other way round.
 abbrev pub bigEndianBy : Reading → Bool → Bool
 bigEndianBy Rust leastFirst = leastFirst
 bigEndianBy Savefile leastFirst = not leastFirst
@@ -42,19 +46,23 @@ unfoldable pub checks : Reading → List ℕ → List Check
 unfolding fileChecks
 checks reading bytes = tooLong bytes ∷ fileChecks reading bytes
 
--- A record: where its header stands, and how many bytes were captured, which follow the header.
-pub record RecordAt : Type 0 where
-  pub header : ℕ
-  pub captured : ℕ
-
 -- The captured length that the record header at a place states.
 abbrev pub capturedAt : ByteOrder → List ℕ → ℕ → ℕ
 capturedAt order bytes at = unsignedAt order 4 bytes (at + 8)
 
--- The records from a place on. A record that runs past the data ends the walk, and so does a header that does, whatever length would be read there. The bound on their number is not felt: by the
--- law `enough` of proofs/Records.antt, every bound from the data's length on gives the same records.
-unfoldable pub recordsFrom : ℕ → ByteOrder → List ℕ → ℕ → List RecordAt
+-- The record whose header stands at a place. Its captured bytes follow the header.
+abbrev pub recordAt : ByteOrder → List ℕ → ℕ → Record
+recordAt order bytes at = record { header = at; body = at + 16; len = capturedAt order bytes at }
+
+-- The records from a place on. A record that runs past the data ends the walk, and so does a header that does, whatever
+-- length would be read there. The bound on their number is not felt: by the law `enough` of proofs/Records.antt, every
+-- bound from the data's length on gives the same records.
+unfoldable pub recordsFrom : ℕ → ByteOrder → List ℕ → ℕ → List Record
 recordsFrom zero order bytes at = []
 recordsFrom (suc bound) order bytes at =
-    let captured = capturedAt order bytes at in
-    cond (leb (at + 16 + captured) (length bytes)) (record { header = at; captured = captured } ∷ recordsFrom bound order bytes (at + 16 + captured)) []
+    let r = recordAt order bytes at in
+    cond (leb (recordEnd r) (length bytes)) (r ∷ recordsFrom bound order bytes (recordEnd r)) []
+
+-- All records from a place on: each takes bytes of the data, so that its length is bound enough.
+abbrev pub allRecordsFrom : ByteOrder → List ℕ → ℕ → List Record
+allRecordsFrom order bytes at = recordsFrom (length bytes) order bytes at

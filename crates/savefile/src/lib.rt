@@ -3,12 +3,13 @@
 use fields::U32;
 use points::Refusal;
 use record_rule::Reading;
+use record_rule::Record;
 ghost use mathlib.Core.Path.{_≡_};
 ghost use Prim.Native.Nat.{_+_, _≤_};
 ghost use lib.ListN.{length};
 ghost use Rattle.fields.specs.Number.{unsignedAt, field};
 ghost use Rattle.savefile.specs.Savefile.{orderOf, bigEndianBy};
-ghost use Rattle.savefile.specs.Headers.{fileHeader, fileHeaderAs, capturedOf};
+ghost use Rattle.savefile.specs.Headers.{fileHeader, ofFileHeader, recordedAt};
 
 // What the file header tells.
 pub enum FileHeader {
@@ -17,18 +18,18 @@ pub enum FileHeader {
     Refused(Refusal),
 }
 
-// How many bytes the record at a place captured, where all of them are there.
-pub enum Captured {
-    Bytes(usize),
+// The record at a place, where all of it is there.
+pub enum Recorded {
+    Whole(Record),
     PastEnd,
 }
 
 pub const FILE_HEADER_LEN: usize = 24;
 
-pub const RECORD_HEADER_LEN: usize = 16;
+const RECORD_HEADER_LEN: usize = 16;
 
 pub fn file_header(data: &[u8], reading: Reading) -> FileHeader
-    ensures { λ r. ⌜ fileHeaderAs r ≡ fileHeader reading (now («data» .entry)) ⌝ }
+    ensures { λ r. ⌜ ofFileHeader r ≡ fileHeader reading (now («data» .entry)) ⌝ }
 {
     if points::MAX_DATA_LEN < data.len() {
         return FileHeader::Refused(Refusal::TooLong);
@@ -53,20 +54,25 @@ fn is_big_endian(reading: Reading, least_first: bool) -> bool
     }
 }
 
-pub fn captured_at(data: &[u8], at: usize, big_endian: bool) -> Captured
-    ensures { λ r. ⌜ r ≡ capturedOf «big_endian» (now («data» .entry)) at ⌝ }
+pub fn record_at(data: &[u8], at: usize, big_endian: bool) -> Recorded
+    ensures { λ r. ⌜ r ≡ recordedAt «big_endian» (now («data» .entry)) at ⌝ }
 {
     if data.len() < RECORD_HEADER_LEN {
-        return Captured::PastEnd;
+        return Recorded::PastEnd;
     }
     if data.len() - RECORD_HEADER_LEN < at {
-        return Captured::PastEnd;
+        return Recorded::PastEnd;
     }
-    let captured = u32_at(data, at + 8, big_endian) as usize;
-    if data.len() - RECORD_HEADER_LEN - at < captured {
-        return Captured::PastEnd;
+    let body = at + RECORD_HEADER_LEN;
+    let len = u32_at(data, at + 8, big_endian) as usize;
+    if data.len() - body < len {
+        return Recorded::PastEnd;
     }
-    Captured::Bytes(captured)
+    Recorded::Whole(Record {
+        header: at,
+        body,
+        len,
+    })
 }
 
 // The header was tested, so that the number is not missing.

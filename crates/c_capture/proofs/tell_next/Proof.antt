@@ -2,7 +2,7 @@
 use mathlib.Core.Path.{_≡_, sym, ap, _∙_}
 use borrow.Author.Needs.{needs}
 use Rattle.capture.specs.declared.walk.Step.{Step}
-use Rattle.capture.specs.Payloads.{openedAs}
+use Rattle.capture.specs.Payloads.{ofOpened}
 use Rattle.c_capture.specs.Capture.{tellStep, tellNext}
 use Rattle.c_capture.proofs.Next.{refused, stepped}
 use Rattle.c_capture.proofs.tell_next.Statement.{statement}
@@ -10,7 +10,7 @@ use Rattle.c_capture.proofs.tell_next.Tie as tie
 
 -- what the call tells of the step, in either case of it
 told : (c : tie.After-step) (s : Step) → c .step .result ≡ s → let a = c .before .before .before .before .before .before .before .before .args in tellStep (a .at .now) s ≡ tellNext (a .reading) (a .port) (a .«data» .now) (a .at .now)
-told c s e = stepped _ _ _ _ _ _ s (ap openedAs (sym (c .before .before .before .before .cursor .given .1)) ∙ c .before .before .before .before .before .before .open-as .ensures) (c .before .moved .ensures) (sym (c .step .ensures) ∙ e)
+told c s e = stepped _ _ _ _ _ _ s (ap ofOpened (sym (c .before .before .before .before .cursor .given .1)) ∙ c .before .before .before .before .before .before .open-as .ensures) (c .before .moved-on .ensures) (sym (c .step .ensures) ∙ e)
 
 open-as-requires : tie.Need-open-as-requires
 open-as-requires c κs = search needs
@@ -22,10 +22,10 @@ enum-told : tie.Need-enum-told
 enum-told c = search needs
 
 returns : tie.Need-returns
-returns c = refused _ _ _ _ _ (ap openedAs (sym (c .enum-told .given .1)) ∙ c .before .before .open-as .ensures)
+returns c = refused _ _ _ _ _ (ap ofOpened (sym (c .enum-told .given .1)) ∙ c .before .before .open-as .ensures)
 
-moved-requires : tie.Need-moved-requires
-moved-requires c κs = search needs
+moved-on-requires : tie.Need-moved-on-requires
+moved-on-requires c κs = search needs
 
 step-requires : tie.Need-step-requires
 step-requires c κs = search needs
@@ -50,7 +50,7 @@ tell-next-spec =
     enum-known-cursor
     enum-told
     returns
-    moved-requires
+    moved-on-requires
     step-requires
     enum-known-place
     enum-told-2

@@ -5,13 +5,13 @@ use mathlib.Core.Path.{refl, ap, _∙_}
 use lib.ListN.{length}
 use Rattle.capture.specs.declared.walk.Place.{Place}
 use Rattle.capture.specs.Payloads.{bytesAt}
-use Rattle.capture.proofs.Steps.{part-lent, place-inside}
+use Rattle.capture.proofs.Handed.{part-lent, part-inside}
 use borrow.Author.Needs.{needs}
 use Rattle.payloads.proofs.payload_as.Statement.{statement}
 use Rattle.payloads.proofs.payload_as.Tie as tie
 
 inside : (c : tie.After-payload-place-as) → c .payload-place-as .result .start + c .payload-place-as .result .len ≤ length (c .before .before .args .«data» .now)
-inside c = rw (c .payload-place-as .ensures) (place-inside _ _ _ _)
+inside c = rw (c .payload-place-as .ensures) (part-inside _ _ _ _)
 
 payload-place-as-requires : tie.Need-payload-place-as-requires
 payload-place-as-requires c κs = search needs

@@ -1,6 +1,7 @@
 -- `capture::open_as` meets its contract: it opens by the file header's answer (`by-header`). Assumes nothing.
 use mathlib.Core.Path.{sym, ap, _∙_}
-use Rattle.savefile.specs.Headers.{fileHeaderAs}
+use Rattle.savefile.specs.Headers.{ofFileHeader}
+use Rattle.savefile.proofs.Header.{order-told}
 use Rattle.capture.proofs.Opening.{by-header}
 use borrow.Author.Needs.{needs}
 use Rattle.capture.proofs.walk.open_as.Statement.{statement}
@@ -16,10 +17,12 @@ enum-known-refusal : tie.Need-enum-known-refusal
 enum-known-refusal c = search needs
 
 returns : tie.Need-returns
-returns c = by-header _ _ _ _ (sym (ap fileHeaderAs (c .before .big-endian .given .1)) ∙ c .before .before .before .file-header .ensures)
+returns c =
+    let told = sym (ap ofFileHeader (c .before .big-endian .given .1)) ∙ c .before .before .before .file-header .ensures in
+    rw (order-told _ _ _ told) (by-header _ _ _ _ told)
 
 returns-2 : tie.Need-returns-2
-returns-2 c = by-header _ _ _ _ (sym (ap fileHeaderAs (c .before .refusal .given .1)) ∙ c .before .before .before .file-header .ensures)
+returns-2 c = by-header _ _ _ _ (sym (ap ofFileHeader (c .before .refusal .given .1)) ∙ c .before .before .before .file-header .ensures)
 
 pub open-as-spec : {M : Type 1} → statement M
 open-as-spec =

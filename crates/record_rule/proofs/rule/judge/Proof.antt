@@ -8,7 +8,7 @@ use lib.ListN.{length}
 use borrow.Author.Tests.{lt-ltb, le-ltb, eq-eqb, ne-eqb}
 use Rattle.record_rule.specs.Ethernet.{etherType}
 use Rattle.record_rule.specs.Ipv4.{version, protocol}
-use Rattle.record_rule.proofs.Tests.{type-small, ether-is, ip-is, version-is, ihl-is, protocol-is, too-short, not-ipv4, wrong-version, not-udp, from-ip}
+use Rattle.record_rule.proofs.Tests.{type-small, ether-is, ip-is, version-is, ihl-is, protocol-is, short-record, not-ipv4, wrong-version, not-udp, from-ip}
 use borrow.Author.Needs.{needs}
 use Rattle.record_rule.proofs.rule.judge.Statement.{statement}
 use Rattle.record_rule.proofs.rule.judge.Tie as tie
@@ -33,7 +33,7 @@ udp : (c : tie.Else4) → eqb (protocol (c .before .before .before .before .befo
 udp c = eq-eqb _ _ (sym (protocol-is _ _ (c .before .before .before .before .before .before .type-at .ensures)) ∙ c .if4 .left)
 
 returns : tie.Need-returns
-returns c = too-short _ _ _ (lt-ltb _ _ (c .if1 .taken))
+returns c = short-record _ _ _ (lt-ltb _ _ (c .if1 .taken))
 
 type-at-requires : tie.Need-type-at-requires
 type-at-requires c κs = search needs

@@ -8,7 +8,7 @@ use mathlib.Core.Path.{_≡_, refl, sym, ap}
 use denote.Enum.Declared.{tagOf}
 use Rattle.record_rule.specs.declared.rule.Start.the-variants.{Nothing}
 use Rattle.record_rule.specs.declared.rule.Verdict.{Verdict}
-use Rattle.record_rule.specs.declared.rule.Verdict.the-variants.{TooShort, NotIpv4, WrongVersion, NotUdp, ShortIpHeader, UdpPastEnd, OtherPort, NothingFollows, Payload}
+use Rattle.record_rule.specs.declared.rule.Verdict.the-variants.{ShortRecord, NotIpv4, WrongVersion, NotUdp, ShortIpHeader, UdpPastEnd, OtherPort, NothingFollows, Payload}
 use Rattle.record_rule.specs.Record.{startOf}
 use borrow.Author.Needs.{needs}
 use Rattle.record_rule.proofs.rule.Verdict.{the-type}
@@ -29,7 +29,7 @@ no-payload : OneOf others 8 → ⊥
 no-payload = ⊎-elim (λ e. omega arith) (⊎-elim (λ e. omega arith) (⊎-elim (λ e. omega arith) (⊎-elim (λ e. omega arith) (⊎-elim (λ e. omega arith) (⊎-elim (λ e. omega arith) (⊎-elim (λ e. omega arith) (λ e. omega arith)))))))
 
 none : (verdict : Verdict) → OneOf others (tagOf the-type verdict) → Nothing ≡ startOf verdict
-none TooShort n = refl
+none ShortRecord n = refl
 none NotIpv4 n = refl
 none WrongVersion n = refl
 none NotUdp n = refl
@@ -37,7 +37,7 @@ none ShortIpHeader n = refl
 none UdpPastEnd n = refl
 none OtherPort n = refl
 none NothingFollows n = refl
-none (Payload from) n = absurd (no-payload n)
+none (Payload start len) n = absurd (no-payload n)
 
 returns-2 : tie.Need-returns-2
 returns-2 c = none (c .before .args .self) (c .match .keys2)

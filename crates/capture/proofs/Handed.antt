@@ -1,0 +1,145 @@
+-- Laws that a promise rests on: each payload lies inside the data and is not empty (`all-within`), so the part that is handed back is empty exactly if the
+-- capture is refused or has no payload of that rank (`empty-if`, `empty-only-if`). They hold for any records that lie inside the data, wherever these come from,
+-- for any number that the checks give, any reading and any port. Then the same of a savefile's records, and of a step. Assumes nothing.
+use Prim.Native.Nat.{ℕ, zero, suc, _+_, _-_, _≤_, _<_, zero-le}
+use native.Mathlib.Nat.{lt-of-not-le}
+use native.Mathlib.Decide.{decLe, ℕ-discrete}
+use native.Mathlib.Omega.{arith}
+use mathlib.Core.Path.{_≡_, refl, ap, subst}
+use mathlib.Core.Logic.{_⊎_, inl, inr}
+use mathlib.Core.Bool.{Bool, true, false, cond}
+use mathlib.Core.List.{List, [], _∷_, _++_, flatMap}
+use lib.Dec.{eqb}
+use lib.ListN.{length, take, drop, getD, length-take, length-drop, List·getD-eq-default}
+use borrow.Author.Tests.{ne-eqb}
+use Rattle.points.specs.ReadInto.{firstRefusal}
+use Rattle.record_rule.specs.declared.Record.{Record}
+use Rattle.record_rule.specs.declared.reading.Reading.{Reading}
+use Rattle.record_rule.specs.declared.rule.Start.{Start}
+use Rattle.record_rule.specs.declared.rule.Start.the-variants.{At, Nothing}
+use Rattle.record_rule.specs.Captured.{recordBytes}
+use Rattle.record_rule.specs.Record.{verdict, startOf}
+use Rattle.record_rule.proofs.Inside.{Inside, AllInside, inside-length}
+use Rattle.record_rule.proofs.Tests.{payload-inside}
+use Rattle.savefile.specs.Savefile.{allRecordsFrom, orderOf, bigEndian, checks}
+use Rattle.savefile.proofs.Records.{records-inside}
+use Rattle.capture.specs.declared.walk.Cursor.{Cursor}
+use Rattle.capture.specs.declared.walk.Place.{Place}
+use Rattle.capture.specs.declared.walk.Step.the-variants.{Payload}
+use Rattle.capture.specs.Payloads.{Yield, yieldAt, yieldOf, yieldsIn, yieldsFrom, placesOf, payloads, nowhere, handedAs, placeOf, bytesAt, yieldsAfter, stepTo, stepOf}
+
+pub record Within (bytes : List ℕ) (p : Place) : Type 0 where
+  pub inside : p .start + p .len ≤ length bytes
+  pub some : 0 < p .len
+
+abbrev pub AllWithin : List ℕ → List Place → Type 0
+AllWithin bytes [] = Unit
+AllWithin bytes (p ∷ places) = Within bytes p × AllWithin bytes places
+
+at-rank : (bytes : List ℕ) (places : List Place) (rank : ℕ) → AllWithin bytes places → rank < length places → Within bytes (getD places rank nowhere)
+at-rank bytes [] rank a h = absurd (omega arith)
+at-rank bytes (p ∷ places) zero a h = a .0
+at-rank bytes (p ∷ places) (suc rank) a h = at-rank bytes places rank (a .1) (omega arith)
+
+-- ---- of any records inside the data
+with-one : (bytes : List ℕ) (r : Record) (s : Start) (later : List Yield) → Inside bytes r → ((start len : ℕ) → s ≡ At start len → (start + len ≤ r .len) × (0 < len)) → AllWithin bytes (placesOf later)
+    → AllWithin bytes (placesOf (yieldAt r s ++ later))
+with-one bytes r Nothing later i k a = a
+with-one bytes r (At start len) later i k a = let b = k start len refl in (record { inside = omega arith; some = b .1 }, a)
+
+pub all-within : (reading : Reading) (port : ℕ) (bytes : List ℕ) (records : List Record) → AllInside bytes records → AllWithin bytes (placesOf (yieldsIn reading port bytes records))
+unfolding flatMap yieldOf
+all-within reading port bytes [] i = tt
+all-within reading port bytes (r ∷ records) i =
+    with-one bytes r (startOf (verdict reading port (recordBytes bytes r))) (yieldsIn reading port bytes records) (i .0)
+    (λ start len e. rw (inside-length bytes r (i .0)) at (payload-inside reading port (recordBytes bytes r) start len e)) (all-within reading port bytes records (i .1))
+
+-- The number is what the checks give: 0 accepts, and any other refuses.
+module _ (number : ℕ) (places : List Place) (rank : ℕ) where
+  -- The capture is refused, or has no payload of that rank.
+  abbrev pub NoneOfRank : Type 0
+  NoneOfRank = (number ≡ 0 → ⊥) ⊎ (length places ≤ rank)
+
+  pub accepted : number ≡ 0 → handedAs number places rank ≡ getD places rank nowhere
+  accepted e = rw e
+
+  pub none-handed : NoneOfRank → handedAs number places rank ≡ nowhere
+  none-handed (inl n) = rw (ne-eqb number 0 n)
+  none-handed (inr h) = rw (List·getD-eq-default places nowhere h) (either (eqb number 0))
+    where
+      either : (b : Bool) → cond b nowhere nowhere ≡ nowhere
+      either true = refl
+      either false = refl
+
+  none-or-within : (bytes : List ℕ) → AllWithin bytes places → NoneOfRank ⊎ Within bytes (handedAs number places rank)
+  none-or-within bytes all =
+      elim (ℕ-discrete number 0) [
+        | yes a ↦
+            elim (decLe (length places) rank) [
+              | yes h ↦ inl (inr h)
+              | no h ↦ inr (rw (accepted a) (at-rank bytes places rank all (lt-of-not-le h)))
+            ]
+        | no n ↦ inl (inl n)
+      ]
+
+module _ (reading : Reading) (port number rank : ℕ) (bytes : List ℕ) (records : List Record) (inside : AllInside bytes records) where
+  abbrev pub places : List Place
+  places = placesOf (yieldsIn reading port bytes records)
+
+  which : NoneOfRank number places rank ⊎ Within bytes (handedAs number places rank)
+  which = none-or-within number places rank bytes (all-within reading port bytes records inside)
+
+  pub place-inside : handedAs number places rank .start + handedAs number places rank .len ≤ length bytes
+  place-inside =
+      elim which [
+        | inl n ↦ rw (none-handed number places rank n) zero-le
+        | inr w ↦ w .inside
+      ]
+
+  pub empty-if : NoneOfRank number places rank → bytesAt bytes (handedAs number places rank) ≡ []
+  empty-if n = rw (none-handed number places rank n)
+
+  pub empty-only-if : bytesAt bytes (handedAs number places rank) ≡ [] → NoneOfRank number places rank
+  empty-only-if e =
+      elim which [
+        | inl n ↦ n
+        | inr w ↦ absurd (omega (arith, w .inside, w .some, simp (length-take, length-drop) at (ap length e)))
+      ]
+
+-- ---- of a savefile's records
+module _ (reading : Reading) (port rank : ℕ) (bytes : List ℕ) where
+  abbrev number : ℕ
+  number = firstRefusal (checks reading bytes)
+
+  abbrev records : List Record
+  records = allRecordsFrom (orderOf (bigEndian reading bytes)) bytes 24
+
+  lie-inside : AllInside bytes records
+  lie-inside = records-inside (orderOf (bigEndian reading bytes)) bytes (length bytes) 24
+
+  pub part-inside : placeOf reading port rank bytes .start + placeOf reading port rank bytes .len ≤ length bytes
+  unfolding placeOf payloads yieldsFrom
+  part-inside = place-inside reading port number rank bytes records lie-inside
+
+  pub part-empty-if : NoneOfRank number (payloads reading port bytes) rank → bytesAt bytes (placeOf reading port rank bytes) ≡ []
+  unfolding placeOf payloads yieldsFrom
+  part-empty-if = empty-if reading port number rank bytes records lie-inside
+
+  pub part-empty-only-if : bytesAt bytes (placeOf reading port rank bytes) ≡ [] → NoneOfRank number (payloads reading port bytes) rank
+  unfolding placeOf payloads yieldsFrom
+  part-empty-only-if = empty-only-if reading port number rank bytes records lie-inside
+
+-- The payload of a step lies inside, too.
+pub step-within : (c : Cursor) (bytes : List ℕ) (p : Place) (next : Cursor) → stepOf c bytes ≡ Payload p next → Within bytes p
+unfolding stepOf yieldsFrom
+step-within c bytes p next e =
+    let order = orderOf (c .«big_endian») in
+    go (yieldsAfter c bytes) (all-within (c .reading) (c .port) bytes (allRecordsFrom order bytes (c .at)) (records-inside order bytes (length bytes) (c .at))) e
+  where
+    go : (l : List Yield) → AllWithin bytes (placesOf l) → stepTo c l ≡ Payload p next → Within bytes p
+    go [] a q = let never : _≡_ {A = ℕ} 0 1 = cc in absurd (omega arith)
+    go (y ∷ l) a q = let is : y .place ≡ p = cc in subst (Within bytes) is (a .0)
+
+-- Code lends the bytes at a place.
+pub part-lent : (bytes : List ℕ) (p : Place) → take (p .start + p .len - p .start) (drop (p .start) bytes) ≡ bytesAt bytes p
+part-lent bytes p = let e : p .start + p .len - p .start ≡ p .len = omega arith in rw e
