@@ -5,7 +5,7 @@ use mathlib.Core.Path.{_≡_, refl, sym, ap, _∙_}
 use mathlib.Core.List.{[]}
 use mathlib.Core.Option.{Option, none, some}
 use borrow.Author.Needs.{needs}
-use lib.IntN.{ℤ}
+use lib.IntN.{ℤ, pos, _*ℤ_}
 use mir.Syntax.{w16, w32, w64}
 use mir.ValLaws.{toZ-ofZ}
 use Rattle.points.specs.ReadInto.{firstRefusal}
@@ -61,7 +61,7 @@ returns c =
     let x = given .0 .0 .0 in
     let times = c .before .times in
     let held = toZ-ofZ w32 x (omega (arith, c .before .before .struct-told .given)) in
-    placed (given .1) _ _ _ _ (c .place-along .ensures) (ap some (toZ-ofZ w64 (times .result) (record { sfits = times .ok }) ∙ times .ensures .0 ∙ rw held))
+    placed (given .1) _ _ _ _ (c .place-along .ensures) (ap some (toZ-ofZ w64 (times .result) (record { sfits = times .ok }) ∙ times .ensures .0 ∙ ap (λ (z : ℤ). z *ℤ pos _) held))
 
 returns-2 : tie.Need-returns-2
 returns-2 c =
