@@ -38,9 +38,13 @@ past [] k e = zero-le
 past (x ∷ l) zero e = absurd (true≢false (ap there e))
 past (x ∷ l) (suc k) e = omega (arith, past l k e)
 
-pub seen-if : (reading : Option Stored) → alongIf reading ≡ seenAt reading
+seen-if : (reading : Option Stored) → alongIf reading ≡ seenAt reading
 seen-if (some reading) = seen reading
 seen-if none = refl
+
+-- where demand 3 has the point
+pub seen-at-rank : (form : Form) (bytes : List ℕ) (rank : ℕ) → byRank form bytes rank .micrometres ≡ seenAt (getElem? (stored form bytes) rank)
+seen-at-rank form bytes rank = seen-if (getElem? (stored form bytes) rank)
 
 module _ (count datum pulseLength : ℕ) where
   -- A number and a reading, placed. The number tells why there is no reading.
@@ -71,6 +75,6 @@ module _ (count datum pulseLength : ℕ) where
     -- What code finds in the answer of `stored_reading`, placed, and demand 3 of it.
     pub answered : {answer a : StoredAnswer} {placement : Placement} → answer ≡ a → ofStoredAnswer answer ≡ readingOfRank form bytes rank → placement ≡ placed (ofStoredAnswer a)
         → (placement ≡ place (byRank form bytes rank) count datum pulseLength) × Accurate (checks form bytes) (getElem? (stored form bytes) rank) count datum pulseLength placement
-    answered is told e =
-        both (byRank form bytes rank) (numbered form bytes) (getElem? (stored form bytes) rank) (seen-if (getElem? (stored form bytes) rank)) count datum pulseLength
-        (e ∙ ap placed (sym (ap ofStoredAnswer is) ∙ told) ∙ ranked)
+    answered is gave e =
+        both (byRank form bytes rank) (numbered form bytes) (getElem? (stored form bytes) rank) (seen-at-rank form bytes rank) count datum pulseLength
+        (e ∙ ap placed (sym (ap ofStoredAnswer is) ∙ gave) ∙ ranked)

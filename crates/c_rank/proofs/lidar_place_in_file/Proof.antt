@@ -5,7 +5,7 @@ use Rattle.livox_form.specs.declared.Form.{Form}
 use Rattle.livox_header.proofs.Opening.{numbered}
 use Rattle.placing.specs.Placing.{place}
 use Rattle.placing_in_file.specs.InFile.{byRank}
-use Rattle.placing_in_file.proofs.Ranked.{seen-if}
+use Rattle.placing_in_file.proofs.Ranked.{seen-at-rank}
 use Rattle.c_placing.specs.Placed.{tellPlaced}
 use Rattle.c_placing.proofs.Received.{both}
 use Rattle.c_rank.specs.StoredNumbers.{formOfFlag}
@@ -26,11 +26,12 @@ returns c =
     let start = c .before .before .before .before .before in
     let bytes = start .args .«data» .now in
     let form = formOfFlag (start .args .lvx2) in
-    both (byRank form bytes (start .args .rank)) (numbered form bytes) _ (seen-if _) _ _ _ _
+    let rank = start .args .rank in
+    both (byRank form bytes rank) (numbered form bytes) _ (seen-at-rank form bytes rank) _ _ _ _
     (c .tell .ensures
     ∙ ap (λ placement. tellPlaced placement (start .args .metres .now))
     (c .before .before .place-in-file .ensures .0
-    ∙ ap (λ (f : Form). place (byRank f bytes (start .args .rank)) (start .args .count) (start .args .datum) (start .args .pulse-length)) (c .before .before .before .form-of-flag .ensures)))
+    ∙ ap (λ (f : Form). place (byRank f bytes rank) (start .args .count) (start .args .datum) (start .args .pulse-length)) (c .before .before .before .form-of-flag .ensures)))
 
 pub lidar-place-in-file-spec : {M : Type 1} → statement M
 lidar-place-in-file-spec =

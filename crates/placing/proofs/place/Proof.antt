@@ -68,9 +68,9 @@ returns-2 c =
     let given = c .before .before .before .before .before .reading2 .given in
     let x = given .0 .0 .0 in
     let times = c .before .times2 in
-    let told = c .before .before .struct-told2 .given in
-    let held = toZ-ofZ w16 x (omega (arith, told)) in
-    let cast = toZ-ofZ w32 x (omega (arith, told)) in
+    let fits = c .before .before .struct-told2 .given in
+    let held = toZ-ofZ w16 x (omega (arith, fits)) in
+    let cast = toZ-ofZ w32 x (omega (arith, fits)) in
     placed (given .1) _ _ _ _ (c .place-along2 .ensures) (ap some (toZ-ofZ w64 (times .result) (record { sfits = times .ok }) ∙ times .ensures .0 ∙ rw (held, cast)))
 
 returns-3 : tie.Need-returns-3
