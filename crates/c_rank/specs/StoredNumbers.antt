@@ -1,5 +1,5 @@
--- How C names the form of a file, and is told a stored reading: a number for its kind, and its three numbers. Without a
--- reading all are 0.
+-- How C names the form of a file, and is told a stored reading: a number for its kind, and its three numbers. Without
+-- a reading all are 0.
 use Prim.Native.Nat.{ℕ}
 use mathlib.Core.Bool.{Bool, true, false}
 use mathlib.Core.Option.{Option, none, some}

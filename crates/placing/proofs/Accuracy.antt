@@ -1,9 +1,9 @@
--- Demand 3 holds of every placing. What it needs of the definitions comes first, a fact each: it is theirs that a definition which is another fails, though the code is
--- changed alike. The checks then let exactly the window through (`by-checks`). Assumes nothing.
-use Prim.Native.Nat.{ℕ, suc, _+_, _%_, _^_, _≤_, _<_}
+-- Demand 3 holds of every placing. First what it needs of the definitions, a fact each: no other proof has their numbers, so a definition that says otherwise is refused
+-- here, even where the code says the same. Then the claim, by what a placing comes to (`by-checks`). Assumes nothing.
+use Prim.Native.Nat.{ℕ, _+_, _%_, _^_, _≤_, _<_}
 use native.Mathlib.Nat.{suc-ne-zero}
 use mathlib.Core.Path.{_≡_, refl, sym, ap, _∙_, subst}
-use mathlib.Core.Bool.{Bool, true, false, true≢false, _||_}
+use mathlib.Core.Bool.{true, false, true≢false, or-false}
 use mathlib.Core.Option.{Option, none, some}
 use lib.Dec.{ltb, leb·suc-suc}
 use lib.Ieee.{binary32, div, ofInt, round}
@@ -13,8 +13,8 @@ use Rattle.points.specs.ReadInto.{firstRefusal}
 use Rattle.points.proofs.ReadInto.{Numbered}
 use Rattle.livox_stored.specs.Stored.{Stored, millimetres, tenMillimetres, spherical, float}
 use Rattle.placing.specs.Placing.{along, Asked, badPulseLength, checksOf, exact, exactOf, metres, Placement, outside, place, pulses}
-use Rattle.placing.specs.Accuracy.{Accurate, Decided, Exact, low32, seenAt, ToldWithin, Within}
-use Rattle.placing.proofs.Checks.{by-checks, or-false}
+use Rattle.placing.specs.Accuracy.{Accurate, Decided, ExactDistance, seenAt, ToldWithin}
+use Rattle.placing.proofs.Checks.{by-checks}
 use Rattle.placing.proofs.Rounding.{quotient-within}
 use Rattle.placing.proofs.Wrapping.{difference-is, moved-alike, signedDifference}
 
@@ -49,7 +49,7 @@ quotient d = refl
 -- ---- the claim
 
 module _ (asked : Asked) (numbered : Numbered (asked .checks)) (reading : Option Stored) (seen-is : asked .micrometres ≡ seenAt reading) (count datum pulseLength : ℕ) where
-  module _ (d : ℤ) (exactly : Exact reading count datum pulseLength d) where
+  module _ (d : ℤ) (exactly : ExactDistance reading count datum pulseLength d) where
     d-is : exact (exactly .x) (pulses count datum) pulseLength ≡ d
     d-is =
         let moved : pulses count datum ≡ exactly .wholeCount -ℤ exactly .wholeDatum = difference count datum ∙ rw (exactly .is-count, exactly .is-datum) (difference-is (exactly .wholeCount) (exactly .wholeDatum) (exactly .apart)) in

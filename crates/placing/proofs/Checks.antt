@@ -1,7 +1,7 @@
 -- A placing, check by check: the checks of a file in their order, then 11, 12 and 13, then the distance (`by-checks`). Assumes nothing.
 use Prim.Native.Nat.{ℕ, zero, suc, _^_, _≤_, _<_}
 use mathlib.Core.Path.{_≡_, refl, sym, ap, subst, _∙_}
-use mathlib.Core.Bool.{Bool, true, false, true≢false, _||_}
+use mathlib.Core.Bool.{Bool, true, false, true≢false, _||_, or-false}
 use mathlib.Core.List.{[]}
 use mathlib.Core.Option.{some, none}
 use native.Mathlib.Nat.{le-trans, lt-of-le-of-lt}
@@ -13,10 +13,6 @@ use borrow.Author.Tests.{ltb-false}
 use Rattle.points.specs.ReadInto.{firstRefusal}
 use Rattle.points.proofs.ReadInto.{Numbered, first-decides, first-passes}
 use Rattle.placing.specs.Placing.{Asked, badPulseLength, checksOf, exact, exactOf, metres, outside, place, Placement, placementOf, pulses, refused, told}
-
-pub or-false : (b : Bool) → b || false ≡ b
-or-false true = refl
-or-false false = refl
 
 later : (a : Bool) {b : Bool} → a || b ≡ false → b ≡ false
 later true h = absurd (true≢false h)
@@ -77,7 +73,7 @@ module _ (asked : Asked) (count datum pulseLength : ℕ) where
       go zero = distance _
       go (suc r) = refusal r
 
-  -- So does what holds of the four that a point with micrometres along the belt may come to, d of them in all.
+  -- Of a point at x whose exact micrometres are d a placing comes to one of four: what holds of each holds of it.
   pub by-checks : Numbered (asked .checks) → (x : ℤ) → asked .micrometres ≡ some x → (d : ℤ) → exact x (pulses count datum) pulseLength ≡ d → (P : Placement → Type 0)
       → ((r : ℕ) → firstRefusal (asked .checks) ≡ suc r → P (refused (suc r)))
       → (badPulseLength pulseLength ≡ true → P (refused 12))

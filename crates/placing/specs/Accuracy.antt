@@ -1,6 +1,7 @@
--- Demand 3, in whole numbers. However often the count has wrapped, a distance that is told of a whole-millimetre point
--- is within half a micrometre of the exact one; and with a pulse length of 1 to 1,000, where checks 1 to 7 let the file
--- through, 13 is given exactly beyond 16 m. Only `Placement`, what a placing gives back, is shared with `Placing`.
+-- Demand 3, in whole numbers. However often the count has wrapped, a distance that is told of a whole-millimetre
+-- point is within half a micrometre of the exact one; and where checks 1 to 7 let the file through, with a pulse
+-- length of 1 to 1,000, the point is refused exactly beyond 16 m, with 13. Only what a placing gives back is shared
+-- with `Placing`.
 use Prim.Native.Nat.{ℕ, zero, suc, _+_, _-_, _*_, _/_, _%_, _^_, _≤_, _<_}
 use mathlib.Core.Path.{_≡_}
 use mathlib.Core.Bool.{Bool, true, false, cond}
@@ -13,7 +14,7 @@ use Rattle.points.specs.ReadInto.{Check, firstRefusal}
 use Rattle.livox_stored.specs.Stored.{Stored, millimetres, tenMillimetres, spherical, float}
 use Rattle.placing.specs.Placing.{Placement, told, refused}
 
--- The x reading of a whole-millimetre point in micrometres: of millimetres × 1,000, of ten-millimetre counts × 10,000.
+-- The micrometres of a whole-millimetre point's x reading: millimetres × 1,000, or ten-millimetre counts × 10,000.
 abbrev pub seenAt : Option Stored → Option ℤ
 seenAt (some (millimetres x y z)) = some (x *ℤ pos 1000)
 seenAt (some (tenMillimetres x y z)) = some (x *ℤ pos 10000)
@@ -26,9 +27,9 @@ abbrev pub low32 : ℤ → ℕ
 low32 (pos n) = n % 2 ^ 32
 low32 (negsuc n) = 2 ^ 32 - 1 - n % 2 ^ 32
 
--- d is an exact distance in micrometres: that of a whole-millimetre point, moved by the pulses. They are the difference
--- of any two whole counts less than 2 ^ 31 apart of which count and datum are the low 32 bits.
-pub record Exact (reading : Option Stored) (count datum pulseLength : ℕ) (d : ℤ) : Type 0 where
+-- d is the exact distance in micrometres: a whole-millimetre point's, moved by the pulses. They are the difference of
+-- any two whole counts less than 2 ^ 31 apart of which count and datum are the low 32 bits.
+pub record ExactDistance (reading : Option Stored) (count datum pulseLength : ℕ) (d : ℤ) : Type 0 where
   pub x : ℤ
   pub is-seen : seenAt reading ≡ some x
   pub wholeCount : ℤ
@@ -74,9 +75,9 @@ abbrev pub Decided : ℤ → Placement → Type 0
 Decided d (told x) = natAbs d ≤ 16000000
 Decided d (refused number) = (16000000 < natAbs d) × (number ≡ 13)
 
--- The claim. A stored reading comes with no checks, and that of a file with the file's. `told-within` holds whatever they
--- say, and whatever the pulse length.
+-- The claim. A stored reading comes with no checks, and that of a file with the file's. `told-within` holds whatever
+-- they say, and whatever the pulse length.
 pub record Accurate (checks : List Check) (reading : Option Stored) (count datum pulseLength : ℕ) (placement : Placement) : Type 0 where
-  pub told-within : (d : ℤ) → Exact reading count datum pulseLength d → ToldWithin d placement
-  pub decided : (d : ℤ) → Exact reading count datum pulseLength d → firstRefusal checks ≡ 0 → 1 ≤ pulseLength → pulseLength ≤ 1000
+  pub told-within : (d : ℤ) → ExactDistance reading count datum pulseLength d → ToldWithin d placement
+  pub decided : (d : ℤ) → ExactDistance reading count datum pulseLength d → firstRefusal checks ≡ 0 → 1 ≤ pulseLength → pulseLength ≤ 1000
       → Decided d placement

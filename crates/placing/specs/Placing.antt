@@ -14,16 +14,16 @@ use Rattle.livox_stored.specs.Stored.{Stored, millimetres, tenMillimetres, sphe
 use Rattle.placing.specs.declared.Placed.{Placed}
 use Rattle.placing.specs.declared.Placed.the-variants.{Metres, Refused}
 
--- The whole micrometres along the belt of a whole-millimetre point, whose reading is in millimetres or in ten-millimetre
--- counts.
+-- The whole micrometres along the belt of a whole-millimetre point, whose reading is in millimetres or in
+-- ten-millimetre counts.
 abbrev pub along : Stored → Option ℤ
 along (millimetres x y z) = some (x *ℤ pos 1000)
 along (tenMillimetres x y z) = some (x *ℤ pos 10000)
 along (spherical depth zenith azimuth) = none
 along (float x y z) = none
 
--- What is asked to be placed: the checks of a file, none where a reading is given, and the micrometres along the belt,
--- none where there is no whole-millimetre point.
+-- What is asked to be placed: the checks of a file, none where a reading is given, and the micrometres along the
+-- belt, none where there is no whole-millimetre point.
 pub record Asked : Type 0 where
   pub checks : List Check
   pub micrometres : Option ℤ
