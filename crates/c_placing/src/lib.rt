@@ -10,10 +10,13 @@ use placing::pulses;
 use units::Millimetres;
 use units::TenMillimetres;
 ghost use mathlib.Core.Path.{_≡_};
+ghost use mathlib.Core.List.{[]};
+ghost use mathlib.Core.Option.{some};
 ghost use lib.IntN.{pos};
 ghost use Rattle.livox_stored.specs.Stored.{millimetres, ofStoredReading, tenMillimetres};
 ghost use Rattle.placing.specs.Placing.{byReading, ofPlaced, place, pulses};
-ghost use Rattle.c_placing.specs.Placed.{tellPlaced};
+ghost use Rattle.placing.specs.Accuracy.{Accurate};
+ghost use Rattle.c_placing.specs.Placed.{received, tellPlaced};
 
 #[no_mangle]
 pub extern "C" fn lidar_place_millimetres(
@@ -24,6 +27,7 @@ pub extern "C" fn lidar_place_millimetres(
     metres: &mut f32,
 ) -> u8
     ensures { λ r. ⌜ (r, now (metres .exit)) ≡ tellPlaced (place (byReading (millimetres x (pos 0) (pos 0))) count datum «pulse_length») (now (metres .entry)) ⌝ }
+    ensures { λ r. ⌜ Accurate [] (some (millimetres x (pos 0) (pos 0))) count datum «pulse_length» (received (r, now (metres .exit))) ⌝ }
 {
     let in_millimetres = StoredReading::Millimetres(Millimetres(x), Millimetres(0), Millimetres(0));
     tell_place(in_millimetres, count, datum, pulse_length, metres)
@@ -38,6 +42,7 @@ pub extern "C" fn lidar_place_ten_millimetres(
     metres: &mut f32,
 ) -> u8
     ensures { λ r. ⌜ (r, now (metres .exit)) ≡ tellPlaced (place (byReading (tenMillimetres x (pos 0) (pos 0))) count datum «pulse_length») (now (metres .entry)) ⌝ }
+    ensures { λ r. ⌜ Accurate [] (some (tenMillimetres x (pos 0) (pos 0))) count datum «pulse_length» (received (r, now (metres .exit))) ⌝ }
 {
     let in_ten_millimetres = StoredReading::TenMillimetres(
         TenMillimetres(x),

@@ -1,2 +1,2 @@
 -- How C asks for a rank, and is told the stored reading.
-pub mod Told
+pub mod StoredNumbers

@@ -12,12 +12,16 @@ use placing::PulseLength;
 use placing_in_file::place_in_file;
 ghost use mathlib.Core.Path.{_≡_};
 ghost use mathlib.Core.Option.{some};
+ghost use lib.ListN.{getElem?};
+ghost use Rattle.livox_header.specs.Header.{checks};
+ghost use Rattle.livox_file.specs.Livox.{stored};
 ghost use Rattle.livox_stored.specs.Stored.{ofStoredReading};
 ghost use Rattle.livox_rank.specs.Ranks.{readingOfRank};
 ghost use Rattle.placing.specs.Placing.{place};
+ghost use Rattle.placing.specs.Accuracy.{Accurate};
 ghost use Rattle.placing_in_file.specs.InFile.{byRank};
-ghost use Rattle.c_placing.specs.Placed.{tellPlaced};
-ghost use Rattle.c_rank.specs.Told.{formOfFlag, told, tellStored};
+ghost use Rattle.c_placing.specs.Placed.{received, tellPlaced};
+ghost use Rattle.c_rank.specs.StoredNumbers.{formOfFlag, storedNumbers, tellStored};
 
 #[no_mangle]
 pub extern "C" fn lidar_stored_reading(
@@ -30,7 +34,7 @@ pub extern "C" fn lidar_stored_reading(
     third: &mut i64,
 ) -> u8
     ensures { λ r. ⌜ r ≡ readingOfRank (formOfFlag lvx2) (now («data» .entry)) rank .0 ⌝ }
-    ensures { λ _. ⌜ told (now (stored .exit)) (now (first .exit)) (now (second .exit)) (now (third .exit)) ≡ tellStored (readingOfRank (formOfFlag lvx2) (now («data» .entry)) rank .1) ⌝ }
+    ensures { λ _. ⌜ storedNumbers (now (stored .exit)) (now (first .exit)) (now (second .exit)) (now (third .exit)) ≡ tellStored (readingOfRank (formOfFlag lvx2) (now («data» .entry)) rank .1) ⌝ }
 {
     *stored = 0;
     *first = 0;
@@ -56,6 +60,7 @@ pub extern "C" fn lidar_place_in_file(
     metres: &mut f32,
 ) -> u8
     ensures { λ r. ⌜ (r, now (metres .exit)) ≡ tellPlaced (place (byRank (formOfFlag lvx2) (now («data» .entry)) rank) count datum «pulse_length») (now (metres .entry)) ⌝ }
+    ensures { λ r. ⌜ Accurate (checks (formOfFlag lvx2) (now («data» .entry))) (getElem? (stored (formOfFlag lvx2) (now («data» .entry))) rank) count datum «pulse_length» (received (r, now (metres .exit))) ⌝ }
 {
     let form = form_of_flag(lvx2);
     let placed = place_in_file(
@@ -76,7 +81,7 @@ fn form_of_flag(lvx2: bool) -> Form
 }
 
 fn tell(reading: StoredReading, stored: &mut u8, first: &mut i64, second: &mut i64, third: &mut i64)
-    ensures { λ _. ⌜ told (now (stored .exit)) (now (first .exit)) (now (second .exit)) (now (third .exit)) ≡ tellStored (some (ofStoredReading reading)) ⌝ }
+    ensures { λ _. ⌜ storedNumbers (now (stored .exit)) (now (first .exit)) (now (second .exit)) (now (third .exit)) ≡ tellStored (some (ofStoredReading reading)) ⌝ }
 {
     match reading {
         StoredReading::Millimetres(x, y, z) => {

@@ -1,47 +1,79 @@
--- Demand 3 holds of every placing. The pulses are those of the whole counts (`pulses-are`), the checks let exactly the window through, and inside it the distance is close
--- (`metres-within`). Assumes nothing.
+-- Demand 3 holds of every placing. First what it needs of the definitions, a fact each: no other proof has their numbers, so a definition that says otherwise is refused
+-- here, even where the code says the same. Then the claim, by what a placing comes to (`by-checks`). Assumes nothing.
 use Prim.Native.Nat.{ℕ, _+_, _%_, _^_, _≤_, _<_}
+use native.Mathlib.Nat.{suc-ne-zero}
 use mathlib.Core.Path.{_≡_, refl, sym, ap, _∙_, subst}
-use mathlib.Core.Bool.{Bool, true, false}
-use mathlib.Core.List.{[]}
+use mathlib.Core.Bool.{true, false, true≢false, or-false}
 use mathlib.Core.Option.{Option, none, some}
-use lib.IntN.{ℤ, _-ℤ_}
-use borrow.Author.Tests.{le-ltb}
+use lib.Dec.{ltb, leb·suc-suc}
+use lib.Ieee.{binary32, div, ofInt, round}
+use lib.IntN.{ℤ, pos, negsuc, natAbs, _-ℤ_}
+use borrow.Author.Tests.{le-ltb, ltb-true, ltb-false}
 use Rattle.points.specs.ReadInto.{firstRefusal}
-use Rattle.points.proofs.ReadInto.{Numbered, first-passes}
-use Rattle.placing.specs.Placing.{Asked, badPulseLength, checksOf, exact, exactOf, Placement, outside, place, pulses}
-use Rattle.placing.specs.Accuracy.{Accurate, low32, PlacedAt}
-use Rattle.placing.proofs.Checks.{at, beyond, micrometres, past-window, window, within}
-use Rattle.placing.proofs.Rounding.{metres-within}
-use Rattle.placing.proofs.Wrapping.{moved-alike, pulses-are}
+use Rattle.points.proofs.ReadInto.{Numbered}
+use Rattle.livox_stored.specs.Stored.{Stored, millimetres, tenMillimetres, spherical, float}
+use Rattle.placing.specs.Placing.{along, Asked, badPulseLength, checksOf, exact, exactOf, metres, Placement, outside, place, pulses}
+use Rattle.placing.specs.Accuracy.{Accurate, Decided, ExactDistance, seenAt, ToldWithin}
+use Rattle.placing.proofs.Checks.{by-checks}
+use Rattle.placing.proofs.Rounding.{quotient-within}
+use Rattle.placing.proofs.Wrapping.{difference-is, moved-alike, signedDifference}
 
--- In a file that its checks let through, a point is placed as by its reading.
-pub let-through : (asked : Asked) → Numbered (asked .checks) → firstRefusal (asked .checks) ≡ 0 → (count datum pulseLength : ℕ)
-    → place (record { checks = []; micrometres = asked .micrometres }) count datum pulseLength ≡ place asked count datum pulseLength
-unfolding place checksOf
-let-through asked numbered passes count datum pulseLength = rw (first-passes (asked .checks) _ numbered passes)
+-- ---- what the claim needs of the definitions
 
+-- 1,000 and 10,000 micrometres
+pub seen : (reading : Stored) → along reading ≡ seenAt (some reading)
+seen (millimetres x y z) = refl
+seen (tenMillimetres x y z) = refl
+seen (spherical depth zenith azimuth) = refl
+seen (float x y z) = refl
+
+-- count less datum
+difference : (count datum : ℕ) → pulses count datum ≡ signedDifference count datum
+unfolding pulses
+difference count datum = refl
+
+-- 1 to 1,000 are pulse lengths
 good-length : (length : ℕ) → 1 ≤ length → length ≤ 1000 → badPulseLength length ≡ false
 good-length length l h = rw (le-ltb length 1 l, le-ltb 1000 length h)
 
-at-distance : (x d : ℤ) (count datum pulseLength : ℕ) → micrometres x count datum pulseLength ≡ d → badPulseLength pulseLength ≡ false → (b : Bool) → outside d ≡ b
-    → PlacedAt d (place (at x count datum pulseLength) count datum pulseLength)
-at-distance x d count datum pulseLength e good true o = subst (PlacedAt d) (beyond x count datum pulseLength good (ap outside e ∙ o)) (past-window d o, refl)
-at-distance x d count datum pulseLength e good false o =
-    subst (PlacedAt d) (within x count datum pulseLength good (ap outside e ∙ o)) (window d o, rw e (metres-within d (window d o)))
+-- 16,000,000 micrometres either way
+window : (d : ℤ) → outside d ≡ ltb 16000000 (natAbs d)
+window (pos n) = refl
+window (negsuc n) = rw (leb·suc-suc 16000000 n) (or-false (ltb 15999999 n))
 
-pub accurate : (asked : Asked) → Numbered (asked .checks) → (count datum pulseLength : ℕ) → Accurate asked count datum pulseLength (place asked count datum pulseLength)
-accurate asked numbered count datum pulseLength = record {
-  accurate = λ passes x point wholeCount wholeDatum c d apart l h.
-      let pulses-is : pulses count datum ≡ wholeCount -ℤ wholeDatum = rw (c, d) (pulses-are wholeCount wholeDatum apart) in
-      subst (PlacedAt (exact x (wholeCount -ℤ wholeDatum) pulseLength)) (ap (λ m. place (record { checks = []; micrometres = m }) count datum pulseLength) (sym point) ∙ let-through asked numbered passes count datum pulseLength)
-      (at-distance x _ count datum pulseLength (ap (λ (z : ℤ). exact x z pulseLength) pulses-is) (good-length pulseLength l h) _ refl);
-}
+-- a metre of 1,000,000 micrometres
+quotient : (d : ℤ) → metres d ≡ div binary32 (ofInt binary32 d) (round binary32 false 1000000 1)
+unfolding metres
+quotient d = refl
 
--- What both contracts of a placing say, from the first.
-pub both : (asked : Asked) → Numbered (asked .checks) → (count datum pulseLength : ℕ) {placement : Placement} → placement ≡ place asked count datum pulseLength
-    → (placement ≡ place asked count datum pulseLength) × Accurate asked count datum pulseLength placement
-both asked numbered count datum pulseLength e = (e, subst (Accurate asked count datum pulseLength) (sym e) (accurate asked numbered count datum pulseLength))
+-- ---- the claim
+
+module _ (asked : Asked) (numbered : Numbered (asked .checks)) (reading : Option Stored) (seen-is : asked .micrometres ≡ seenAt reading) (count datum pulseLength : ℕ) where
+  module _ (d : ℤ) (exactly : ExactDistance reading count datum pulseLength d) where
+    d-is : exact (exactly .x) (pulses count datum) pulseLength ≡ d
+    d-is =
+        let moved : pulses count datum ≡ exactly .wholeCount -ℤ exactly .wholeDatum = difference count datum ∙ rw (exactly .is-count, exactly .is-datum) (difference-is (exactly .wholeCount) (exactly .wholeDatum) (exactly .apart)) in
+        rw moved (sym (exactly .is-exact))
+
+    told-within : ToldWithin d (place asked count datum pulseLength)
+    told-within =
+        by-checks asked count datum pulseLength numbered _ (seen-is ∙ exactly .is-seen) d d-is (ToldWithin d) (λ r e. tt) (λ bad. tt) (λ far. tt)
+        (λ near. rw (quotient d) (quotient-within d (ltb-false 16000000 (natAbs d) (sym (window d) ∙ near))))
+
+    decided : firstRefusal (asked .checks) ≡ 0 → 1 ≤ pulseLength → pulseLength ≤ 1000 → Decided d (place asked count datum pulseLength)
+    decided passes l h =
+        by-checks asked count datum pulseLength numbered _ (seen-is ∙ exactly .is-seen) d d-is (Decided d) (λ r e. absurd (suc-ne-zero r (sym e ∙ passes)))
+        (λ bad. absurd (true≢false (sym bad ∙ good-length pulseLength l h)))
+        (λ far. (ltb-true 16000000 (natAbs d) (sym (window d) ∙ far), refl))
+        (λ near. ltb-false 16000000 (natAbs d) (sym (window d) ∙ near))
+
+  pub accurate : Accurate (asked .checks) reading count datum pulseLength (place asked count datum pulseLength)
+  accurate = record { told-within = told-within; decided = decided }
+
+  -- What both contracts of a placing say, from the first.
+  pub both : {placement : Placement} → placement ≡ place asked count datum pulseLength
+      → (placement ≡ place asked count datum pulseLength) × Accurate (asked .checks) reading count datum pulseLength placement
+  both e = (e, subst (Accurate (asked .checks) reading count datum pulseLength) (sym e) accurate)
 
 -- A count and a datum moved by the same amount change nothing.
 pub placed-alike : (asked : Asked) (count datum pulseLength by : ℕ) → count < 2 ^ 32 → datum < 2 ^ 32
@@ -50,5 +82,5 @@ unfolding place checksOf exactOf
 placed-alike asked count datum pulseLength by c d = rw (exact-alike (asked .micrometres))
   where
     exact-alike : (m : Option ℤ) → exactOf m ((count + by) % 2 ^ 32) ((datum + by) % 2 ^ 32) pulseLength ≡ exactOf m count datum pulseLength
-    exact-alike (some x) = ap (λ (z : ℤ). exact x z pulseLength) (moved-alike count datum by c d)
+    exact-alike (some x) = ap (λ (z : ℤ). exact x z pulseLength) (difference ((count + by) % 2 ^ 32) ((datum + by) % 2 ^ 32) ∙ moved-alike count datum by c d ∙ sym (difference count datum))
     exact-alike none = refl

@@ -11,7 +11,6 @@ use mathlib.Core.Path.{_≡_, refl, sym, ap, _∙_, subst}
 use mathlib.Core.Logic.{inl, inr}
 use mathlib.Core.Bool.{Bool, true, false, cond, not}
 use lib.IntN.{ℤ, pos, negsuc, negℤ, natAbs, subℕ, _-ℤ_, _*ℤ_}
-use Rattle.placing.specs.Placing.{metres}
 use Rattle.placing.specs.Accuracy.{exponentBits, Finite, fractionBits, magnitude, steps, Within}
 use lib.Dec.{T, isLe, isEq, leb, eqb, leb→le, nleb→lt, eqb→eq, lit<, lit≤}
 use lib.Pow.{pow-pos, pow-mono, pow-add}
@@ -194,7 +193,7 @@ anywhere s n h =
 quotient : (s : Bool) (n : ℕ) → n ≤ 16000000 → {d : ℤ} → d ≡ signedBy s n → Within (div binary32 (round binary32 s n 1) (round binary32 false 1000000 1)) d
 quotient s n h e = rw (e, metres-is s n h) (anywhere s n h)
 
-pub metres-within : (micrometres : ℤ) → natAbs micrometres ≤ 16000000 → Within (metres micrometres) micrometres
-unfolding metres ofInt
-metres-within (pos n) h = quotient false n h refl
-metres-within (negsuc n) h = quotient true (suc n) h refl
+pub quotient-within : (micrometres : ℤ) → natAbs micrometres ≤ 16000000 → Within (div binary32 (ofInt binary32 micrometres) (round binary32 false 1000000 1)) micrometres
+unfolding ofInt
+quotient-within (pos n) h = quotient false n h refl
+quotient-within (negsuc n) h = quotient true (suc n) h refl

@@ -1,5 +1,5 @@
--- The pulses of two counts are the difference of the whole counts after them, where those are less than 2 ^ 31 apart: the low 32 bits of a difference are those of
--- the low 32 bits' difference (`low-difference`), and a small number is what its low 32 bits say, read with their sign (`small-signed`). Assumes nothing.
+-- A difference that wraps, read with its sign, is the difference of the whole counts, where those are less than 2 ^ 31 apart: the low 32 bits of a difference are those
+-- of the low 32 bits' difference (`low-difference`), and a small number is what its low 32 bits say, read with their sign (`small-signed`). Assumes nothing.
 use Prim.Native.Nat.{ℕ, zero, suc, _+_, _-_, _%_, _^_, _≤_, _<_, suc-le-suc}
 use native.Mathlib.Nat.{lt-of-not-le}
 use native.Mathlib.Decide.{decLe}
@@ -10,7 +10,6 @@ use lib.Dec.{ltb}
 use lib.IntN.{ℤ, pos, negsuc, natAbs, subℕ, _-ℤ_, +ℤ-idr}
 use borrow.Author.Tests.{lt-ltb, le-ltb}
 use Rattle.signed_fields.specs.Signed.{signed}
-use Rattle.placing.specs.Placing.{pulses}
 use Rattle.placing.specs.Accuracy.{low32}
 
 -- m − n of two counts from 0 on, and of two below 0, either way
@@ -48,13 +47,15 @@ small-signed (negsuc n) h =
     let back : 2 ^ 32 - suc (2 ^ 32 - 1 - n) ≡ n = omega arith in
     rw (same, le-ltb _ _ high, lt-ltb _ _ less) (ap negsuc back)
 
-pub pulses-are : (a b : ℤ) → natAbs (a -ℤ b) < 2 ^ 31 → pulses (low32 a) (low32 b) ≡ a -ℤ b
-unfolding pulses
-pulses-are a b h = ap (signed 32) (low-difference a b) ∙ small-signed (a -ℤ b) h
+-- count − datum, by their low 32 bits
+abbrev pub signedDifference : ℕ → ℕ → ℤ
+signedDifference count datum = signed 32 ((count + (2 ^ 32 - datum)) % 2 ^ 32)
 
--- A count and a datum moved by the same amount have the same pulses.
-pub moved-alike : (count datum by : ℕ) → count < 2 ^ 32 → datum < 2 ^ 32 → pulses ((count + by) % 2 ^ 32) ((datum + by) % 2 ^ 32) ≡ pulses count datum
-unfolding pulses
+pub difference-is : (a b : ℤ) → natAbs (a -ℤ b) < 2 ^ 31 → signedDifference (low32 a) (low32 b) ≡ a -ℤ b
+difference-is a b h = ap (signed 32) (low-difference a b) ∙ small-signed (a -ℤ b) h
+
+-- A count and a datum moved by the same amount have the same difference.
+pub moved-alike : (count datum by : ℕ) → count < 2 ^ 32 → datum < 2 ^ 32 → signedDifference ((count + by) % 2 ^ 32) ((datum + by) % 2 ^ 32) ≡ signedDifference count datum
 moved-alike count datum by c d =
     let same : ((count + by) % 2 ^ 32 + (2 ^ 32 - (datum + by) % 2 ^ 32)) % 2 ^ 32 ≡ (count + (2 ^ 32 - datum)) % 2 ^ 32 = omega arith in
     ap (signed 32) same

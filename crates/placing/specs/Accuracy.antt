@@ -1,21 +1,46 @@
--- Demand 3: however often the count has wrapped, a whole-millimetre point is placed within half a micrometre of the exact distance, and refused with 13 exactly
--- where that lies beyond 16 m. All in whole numbers.
+-- Demand 3, in whole numbers. However often the count has wrapped, a distance that is told of a whole-millimetre
+-- point is within half a micrometre of the exact one; and where checks 1 to 7 let the file through, with a pulse
+-- length of 1 to 1,000, the point is refused exactly beyond 16 m, with 13. Only what a placing gives back is shared
+-- with `Placing`.
 use Prim.Native.Nat.{ℕ, zero, suc, _+_, _-_, _*_, _/_, _%_, _^_, _≤_, _<_}
 use mathlib.Core.Path.{_≡_}
 use mathlib.Core.Bool.{Bool, true, false, cond}
-use mathlib.Core.Option.{some}
+use mathlib.Core.List.{List}
+use mathlib.Core.Option.{Option, none, some}
 use lib.Dec.{leb}
-use lib.IntN.{ℤ, pos, negsuc, negℤ, natAbs, _-ℤ_, _*ℤ_}
+use lib.IntN.{ℤ, pos, negsuc, negℤ, natAbs, _+ℤ_, _-ℤ_, _*ℤ_}
 use lib.Ieee.{Float, binary32, toBits}
-use Rattle.points.specs.ReadInto.{firstRefusal}
-use Rattle.placing.specs.Placing.{Asked, exact, Placement, told, refused}
+use Rattle.points.specs.ReadInto.{Check, firstRefusal}
+use Rattle.livox_stored.specs.Stored.{Stored, millimetres, tenMillimetres, spherical, float}
+use Rattle.placing.specs.Placing.{Placement, told, refused}
+
+-- The micrometres of a whole-millimetre point's x reading: millimetres × 1,000, or ten-millimetre counts × 10,000.
+abbrev pub seenAt : Option Stored → Option ℤ
+seenAt (some (millimetres x y z)) = some (x *ℤ pos 1000)
+seenAt (some (tenMillimetres x y z)) = some (x *ℤ pos 10000)
+seenAt (some (spherical depth zenith azimuth)) = none
+seenAt (some (float x y z)) = none
+seenAt none = none
 
 -- The remainder by 2 ^ 32 of a whole count, below 0 too: its low 32 bits.
 abbrev pub low32 : ℤ → ℕ
 low32 (pos n) = n % 2 ^ 32
 low32 (negsuc n) = 2 ^ 32 - 1 - n % 2 ^ 32
 
--- An f32's bits: the sign, 8 bits of exponent and 23 of fraction. It is finite where the exponent's bits are not all ones.
+-- d is the exact distance in micrometres: a whole-millimetre point's, moved by the pulses. They are the difference of
+-- any two whole counts less than 2 ^ 31 apart of which count and datum are the low 32 bits.
+pub record ExactDistance (reading : Option Stored) (count datum pulseLength : ℕ) (d : ℤ) : Type 0 where
+  pub x : ℤ
+  pub is-seen : seenAt reading ≡ some x
+  pub wholeCount : ℤ
+  pub wholeDatum : ℤ
+  pub is-count : count ≡ low32 wholeCount
+  pub is-datum : datum ≡ low32 wholeDatum
+  pub apart : natAbs (wholeCount -ℤ wholeDatum) < 2 ^ 31
+  pub is-exact : d ≡ x +ℤ (wholeCount -ℤ wholeDatum) *ℤ pos pulseLength
+
+-- An f32's bits: the sign, 8 bits of exponent and 23 of fraction. It is finite where the exponent's bits are not all
+-- ones.
 abbrev pub exponentBits : ℕ → ℕ
 exponentBits bits = bits % 2 ^ 31 / 2 ^ 23
 
@@ -34,20 +59,25 @@ magnitude (suc exponent) fraction = (2 ^ 23 + fraction) * 2 ^ exponent
 abbrev pub steps : ℕ → ℤ
 steps bits = cond (leb (2 ^ 31) bits) (negℤ (pos (magnitude (exponentBits bits) (fractionBits bits)))) (pos (magnitude (exponentBits bits) (fractionBits bits)))
 
--- Within half a micrometre of a distance d in micrometres: 2,000,000 times the steps and 2 ^ 150 times d differ by at most 2 ^ 149.
+-- Finite, and within half a micrometre of a distance d in micrometres: 2,000,000 times the steps and 2 ^ 150 times d
+-- differ by at most 2 ^ 149.
 pub record Within (x : Float) (d : ℤ) : Type 0 where
   pub finite : Finite (toBits binary32 x)
   pub close : natAbs (pos 2000000 *ℤ steps (toBits binary32 x) -ℤ pos (2 ^ 150) *ℤ d) ≤ 2 ^ 149
 
--- Refused with 13 exactly where d lies beyond 16,000,000 micrometres either way; in every other case a distance within half a micrometre of d is told.
-abbrev pub PlacedAt : ℤ → Placement → Type 0
-PlacedAt d (told x) = (natAbs d ≤ 16000000) × Within x d
-PlacedAt d (refused number) = (16000000 < natAbs d) × (number ≡ 13)
+-- A distance that is told is within half a micrometre of d.
+abbrev pub ToldWithin : ℤ → Placement → Type 0
+ToldWithin d (told x) = Within x d
+ToldWithin d (refused number) = Unit {0}
 
--- If the file's checks pass and the point is a whole-millimetre one at x micrometres, then for every two whole counts less than 2 ^ 31 apart, of which count and
--- datum are the remainders by 2 ^ 32, and for every pulse length of 1 to 1,000, the placement is right for the exact distance. Its pulses are the difference of the
--- whole counts, which does not wrap.
-pub record Accurate (asked : Asked) (count datum pulseLength : ℕ) (placement : Placement) : Type 0 where
-  pub accurate : firstRefusal (asked .checks) ≡ 0 → (x : ℤ) → asked .micrometres ≡ some x → (wholeCount wholeDatum : ℤ) → count ≡ low32 wholeCount
-      → datum ≡ low32 wholeDatum → natAbs (wholeCount -ℤ wholeDatum) < 2 ^ 31 → 1 ≤ pulseLength → pulseLength ≤ 1000
-      → PlacedAt (exact x (wholeCount -ℤ wholeDatum) pulseLength) placement
+-- Refused exactly where d lies beyond 16,000,000 micrometres either way, and then with 13; told in every other case.
+abbrev pub Decided : ℤ → Placement → Type 0
+Decided d (told x) = natAbs d ≤ 16000000
+Decided d (refused number) = (16000000 < natAbs d) × (number ≡ 13)
+
+-- The claim. A stored reading comes with no checks, and that of a file with the file's. `told-within` holds whatever
+-- they say, and whatever the pulse length.
+pub record Accurate (checks : List Check) (reading : Option Stored) (count datum pulseLength : ℕ) (placement : Placement) : Type 0 where
+  pub told-within : (d : ℤ) → ExactDistance reading count datum pulseLength d → ToldWithin d placement
+  pub decided : (d : ℤ) → ExactDistance reading count datum pulseLength d → firstRefusal checks ≡ 0 → 1 ≤ pulseLength → pulseLength ≤ 1000
+      → Decided d placement

@@ -1,30 +1,29 @@
 -- Placing a point on the belt: the checks in their order, and the distance that is told. x runs along the belt.
-use Prim.Native.Nat.{ℕ, zero, suc, _+_, _-_, _%_, _^_, _<_}
+use Prim.Native.Nat.{ℕ, zero, suc, _+_, _-_, _%_, _^_}
 use mathlib.Core.Bool.{Bool, true, false, _||_}
 use mathlib.Core.List.{List, [], _∷_, _++_}
 use mathlib.Core.Option.{Option, some, none}
 use lib.Dec.{ltb}
 use lib.IntN.{ℤ, pos, negℤ, _+ℤ_, _*ℤ_}
-use lib.Signed.{ltZ, mag}
+use lib.Signed.{ltZ}
 use lib.Ieee.{Float, binary32, ofInt, round, div}
 use Rattle.signed_fields.specs.Signed.{signed}
 use Rattle.answers.specs.Answer.{refusalNumber}
 use Rattle.points.specs.ReadInto.{Check, firstRefusal}
 use Rattle.livox_stored.specs.Stored.{Stored, millimetres, tenMillimetres, spherical, float}
-use Rattle.placing.specs.declared.Along.{Along}
-use Rattle.placing.specs.declared.Along.the-variants.{Micrometres, NotWholeMillimetre}
 use Rattle.placing.specs.declared.Placed.{Placed}
 use Rattle.placing.specs.declared.Placed.the-variants.{Metres, Refused}
 
--- The whole micrometres along the belt of a whole-millimetre point, whose reading is in millimetres or in ten-millimetre counts.
+-- The whole micrometres along the belt of a whole-millimetre point, whose reading is in millimetres or in
+-- ten-millimetre counts.
 abbrev pub along : Stored → Option ℤ
 along (millimetres x y z) = some (x *ℤ pos 1000)
 along (tenMillimetres x y z) = some (x *ℤ pos 10000)
 along (spherical depth zenith azimuth) = none
 along (float x y z) = none
 
--- What is asked to be placed: the checks of a file, none where a reading is given, and the micrometres along the belt, none where there is no whole-millimetre
--- point.
+-- What is asked to be placed: the checks of a file, none where a reading is given, and the micrometres along the
+-- belt, none where there is no whole-millimetre point.
 pub record Asked : Type 0 where
   pub checks : List Check
   pub micrometres : Option ℤ
@@ -85,15 +84,6 @@ checksOf asked count datum pulseLength =
 unfoldable pub place : Asked → ℕ → ℕ → ℕ → Placement
 unfolding metres firstRefusal checksOf exactOf
 place asked count datum pulseLength = placementOf (firstRefusal (checksOf asked count datum pulseLength)) (exactOf (asked .micrometres) count datum pulseLength)
-
--- Code's micrometres along the belt, and a bound that keeps its sums within 64 bits. No public contract cites these.
-abbrev pub ofAlong : Along → Option ℤ
-ofAlong (Micrometres x) = some x
-ofAlong NotWholeMillimetre = none
-
-abbrev pub InReach : Along → Type 0
-InReach (Micrometres x) = mag x < 2 ^ 45
-InReach NotWholeMillimetre = Unit {0}
 
 -- The answer of code.
 abbrev pub ofPlaced : Placed → Placement

@@ -11,7 +11,7 @@ ghost use Prim.Native.Nat.{_+_, _-_, _%_, _^_, _≤_, _<_};
 ghost use lib.IntN.{pos, _*ℤ_};
 ghost use lib.Signed.{mag};
 ghost use Rattle.livox_stored.specs.Stored.{ofStoredReading};
-ghost use Rattle.placing.specs.Placing.{along, badPulseLength, byReading, ofAlong, InReach, ofPlaced, outside, place, pulses};
+ghost use Rattle.placing.specs.Placing.{badPulseLength, byReading, ofPlaced, outside, place, pulses};
 ghost use Rattle.placing.specs.Accuracy.{Accurate};
 
 // A count of the belt's encoder, which wraps at 2^32.
@@ -29,12 +29,6 @@ pub enum Placed {
     Refused(Refusal),
 }
 
-// Where a point was seen along the belt.
-enum Along {
-    Micrometres(i64),
-    NotWholeMillimetre,
-}
-
 // Places a point by its stored reading.
 pub fn place(
     reading: StoredReading,
@@ -43,12 +37,22 @@ pub fn place(
     pulse_length: PulseLength,
 ) -> Placed
     ensures { λ r. ⌜ ofPlaced r ≡ place (byReading (ofStoredReading reading)) (count .0) (datum .0) («pulse_length» .0) ⌝ }
-    ensures { λ r. ⌜ Accurate (byReading (ofStoredReading reading)) (count .0) (datum .0) («pulse_length» .0) (ofPlaced r) ⌝ }
+    ensures { λ r. ⌜ Accurate [] (some (ofStoredReading reading)) (count .0) (datum .0) («pulse_length» .0) (ofPlaced r) ⌝ }
 {
-    let Along::Micrometres(x) = along_belt(reading) else {
-        return Placed::Refused(Refusal::NotPlaceable);
-    };
-    place_along(x, count, datum, pulse_length)
+    match reading {
+        StoredReading::Millimetres(x, _, _) => {
+            place_along(times(x.0, 1000), count, datum, pulse_length)
+        }
+        StoredReading::TenMillimetres(x, _, _) => {
+            place_along(times(x.0 as i32, 10000), count, datum, pulse_length)
+        }
+        StoredReading::Spherical {
+            depth: _,
+            zenith: _,
+            azimuth: _,
+        } => Placed::Refused(Refusal::NotPlaceable),
+        StoredReading::Float(_, _, _) => Placed::Refused(Refusal::NotPlaceable),
+    }
 }
 
 // The pulses since the datum, below 0 where the belt ran back.
@@ -62,22 +66,6 @@ fn wrapped(count: u32, datum: u32) -> u32
     ensures { λ r. ⌜ r ≡ (count + (2 ^ 32 - datum)) % 2 ^ 32 ⌝ }
 {
     std::num::wrapping_sub_u32(count, datum)
-}
-
-fn along_belt(reading: StoredReading) -> Along
-    ensures { λ r. ⌜ ofAlong r ≡ along (ofStoredReading reading) ⌝ }
-    ensures { λ r. ⌜ InReach r ⌝ }
-{
-    match reading {
-        StoredReading::Millimetres(x, _, _) => Along::Micrometres(times(x.0, 1000)),
-        StoredReading::TenMillimetres(x, _, _) => Along::Micrometres(times(x.0 as i32, 10000)),
-        StoredReading::Spherical {
-            depth: _,
-            zenith: _,
-            azimuth: _,
-        } => Along::NotWholeMillimetre,
-        StoredReading::Float(_, _, _) => Along::NotWholeMillimetre,
-    }
 }
 
 fn place_along(x: i64, count: BeltCount, datum: BeltDatum, pulse_length: PulseLength) -> Placed

@@ -1,4 +1,5 @@
--- Placing by file and rank is placing the stored reading of that rank, where there is one; else it gives the number that says why there is none. Assumes nothing.
+-- Placing by file and rank is placing the stored reading of that rank, where there is one; else it gives the number that says why there is none. Demand 3 follows (`both`).
+-- Assumes nothing.
 use Prim.Native.Nat.{ℕ, zero, suc, _≤_, _<_, zero-le}
 use native.Mathlib.Omega.{arith}
 use mathlib.Core.Path.{_≡_, refl, sym, ap, _∙_}
@@ -18,8 +19,9 @@ use Rattle.livox_file.specs.Livox.{stored}
 use Rattle.livox_rank.specs.declared.StoredAnswer.{StoredAnswer}
 use Rattle.livox_rank.specs.Ranks.{ofStoredAnswer, rankedAs, readingOfRank}
 use Rattle.placing.specs.Placing.{Asked, byReading, Placement, place, refused}
-use Rattle.placing.proofs.Accuracy.{let-through}
-use Rattle.placing.proofs.Checks.{file-refused, not-placeable}
+use Rattle.placing.specs.Accuracy.{Accurate, seenAt}
+use Rattle.placing.proofs.Accuracy.{both, seen}
+use Rattle.placing.proofs.Checks.{file-refused, let-through, not-placeable}
 use Rattle.placing_in_file.specs.InFile.{alongIf, byRank}
 
 abbrev there : Option Stored → Bool
@@ -35,6 +37,14 @@ past : (l : List Stored) (k : ℕ) → getElem? l k ≡ none → length l ≤ k
 past [] k e = zero-le
 past (x ∷ l) zero e = absurd (true≢false (ap there e))
 past (x ∷ l) (suc k) e = omega (arith, past l k e)
+
+seen-if : (reading : Option Stored) → alongIf reading ≡ seenAt reading
+seen-if (some reading) = seen reading
+seen-if none = refl
+
+-- where demand 3 has the point
+pub seen-at-rank : (form : Form) (bytes : List ℕ) (rank : ℕ) → byRank form bytes rank .micrometres ≡ seenAt (getElem? (stored form bytes) rank)
+seen-at-rank form bytes rank = seen-if (getElem? (stored form bytes) rank)
 
 module _ (count datum pulseLength : ℕ) where
   -- A number and a reading, placed. The number tells why there is no reading.
@@ -55,13 +65,16 @@ module _ (count datum pulseLength : ℕ) where
       where
         go : (n : ℕ) → firstRefusal (checks form bytes) ≡ n
             → placed (rankedAs (firstRefusal (checks form bytes ++ (11, leb (length (stored form bytes)) rank) ∷ [])) (getElem? (stored form bytes) rank)) ≡ place (byRank form bytes rank) count datum pulseLength
-        go zero e = rw (first-passes (checks form bytes) _ (numbered form bytes) e) (at-rank (stored form bytes) rank _ refl ∙ let-through (byRank form bytes rank) (numbered form bytes) e count datum pulseLength)
+        go zero e = rw (first-passes (checks form bytes) _ (numbered form bytes) e) (at-rank (stored form bytes) rank _ refl ∙ let-through (byRank form bytes rank) count datum pulseLength (numbered form bytes) e)
         go (suc n) e = rw (first-decides (checks form bytes) _ n e) (file-refused (byRank form bytes rank) count datum pulseLength n e)
 
     -- The two ways of asking agree.
     pub same-as-by-reading : (reading : Stored) → readingOfRank form bytes rank ≡ (0, some reading) → place (byReading reading) count datum pulseLength ≡ place (byRank form bytes rank) count datum pulseLength
     same-as-by-reading reading e = sym (ap placed e) ∙ ranked
 
-    -- What code finds in the answer of `stored_reading`, placed.
-    pub answered : {answer a : StoredAnswer} → answer ≡ a → ofStoredAnswer answer ≡ readingOfRank form bytes rank → placed (ofStoredAnswer a) ≡ place (byRank form bytes rank) count datum pulseLength
-    answered found told = ap placed (sym (ap ofStoredAnswer found) ∙ told) ∙ ranked
+    -- What code finds in the answer of `stored_reading`, placed, and demand 3 of it.
+    pub answered : {answer a : StoredAnswer} {placement : Placement} → answer ≡ a → ofStoredAnswer answer ≡ readingOfRank form bytes rank → placement ≡ placed (ofStoredAnswer a)
+        → (placement ≡ place (byRank form bytes rank) count datum pulseLength) × Accurate (checks form bytes) (getElem? (stored form bytes) rank) count datum pulseLength placement
+    answered is gave e =
+        both (byRank form bytes rank) (numbered form bytes) (getElem? (stored form bytes) rank) (seen-at-rank form bytes rank) count datum pulseLength
+        (e ∙ ap placed (sym (ap ofStoredAnswer is) ∙ gave) ∙ ranked)

@@ -1,4 +1,5 @@
--- What is asked with a form, a file and a rank: the file's checks, and the micrometres along the belt of the point of that rank, if it is a whole-millimetre point.
+-- What is asked with a form, a file and a rank: the file's checks, and the micrometres along the belt of the point of
+-- that rank, if it is a whole-millimetre point.
 use Prim.Native.Nat.{ℕ}
 use mathlib.Core.List.{List}
 use mathlib.Core.Option.{Option, none, some}

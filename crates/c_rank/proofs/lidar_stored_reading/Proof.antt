@@ -7,7 +7,7 @@ use borrow.Author.Needs.{needs}
 use Rattle.livox_form.specs.declared.Form.{Form}
 use Rattle.livox_rank.specs.declared.StoredAnswer.{StoredAnswer}
 use Rattle.livox_rank.specs.Ranks.{ofStoredAnswer, readingOfRank}
-use Rattle.c_rank.specs.Told.{formOfFlag, tellStored}
+use Rattle.c_rank.specs.StoredNumbers.{formOfFlag, tellStored}
 use Rattle.c_rank.proofs.lidar_stored_reading.Statement.{statement}
 use Rattle.c_rank.proofs.lidar_stored_reading.Tie as tie
 

@@ -8,7 +8,7 @@ use mir.Syntax.{Width, w16, w32, w64}
 use mir.Val.{SFits, ofZ, toZ}
 use mir.ValLaws.{toZ-ofZ, toZ-pos}
 use Rattle.livox_stored.specs.Stored.{ofStoredReading}
-use Rattle.c_rank.specs.Told.{tellStored, told}
+use Rattle.c_rank.specs.StoredNumbers.{storedNumbers, tellStored}
 use borrow.Author.Needs.{needs}
 use Rattle.c_rank.proofs.tell.Statement.{statement}
 use Rattle.c_rank.proofs.tell.Tie as tie

@@ -9,12 +9,12 @@ use borrow.Author.Needs.{needs}
 use lib.Dec.{lit≤}
 use lib.IntN.{ℤ, pos, _+ℤ_, _*ℤ_}
 use lib.Signed.{mag}
-use lib.Ieee.{binary32, ofBits, round}
+use lib.Ieee.{ofBits, round}
 use mir.Syntax.{w32, w64}
 use mir.Val.{SFits, toZ, ofZ}
 use mir.ValLaws.{toZ-ofZ}
 use Rattle.placing.specs.Placing.{badPulseLength, metres, outside}
-use Rattle.placing.proofs.Checks.{bad-length, beyond, castable, good-length, micrometres, within}
+use Rattle.placing.proofs.Checks.{at-most, bad-length, beyond, castable, micrometres, within}
 use Rattle.placing.proofs.Whole.{sum-in}
 use Rattle.placing.proofs.place_along.Statement.{statement}
 use Rattle.placing.proofs.place_along.Tie as tie
@@ -43,11 +43,6 @@ exact-is c =
     sum-is _ _ (start .fits .x) (start .pre) (record { sfits = c .times .ok }) (c .times .ensures .1)
     ∙ ap (λ z. start .args .x +ℤ z) (c .times .ensures .0 ∙ ap (λ z. z *ℤ pos (start .args .pulse-length .0)) moved)
 
--- 1000000.0, as the code has it
-million : ofBits binary32 1232348160 ≡ round binary32 false 1000000 1
-unfolding ofBits round
-million = refl
-
 is-bad-pulse-length-requires : tie.Need-is-bad-pulse-length-requires
 is-bad-pulse-length-requires c κs = search needs
 
@@ -60,8 +55,7 @@ pulses-requires c κs = search needs
 times-requires : tie.Need-times-requires
 times-requires c κs =
     let length = c .before .before .before .before .args .pulse-length .0 in
-    let few : length ≤ 1000 = good-length length (sym (c .before .before .before .is-bad-pulse-length .ensures) ∙ c .before .before .if1 .left) in
-    le-trans few (lit≤ tt)
+    le-trans (at-most _ length (sym (c .before .before .before .is-bad-pulse-length .ensures) ∙ c .before .before .if1 .left)) (lit≤ tt)
 
 add-micrometres : tie.Need-add-micrometres
 add-micrometres c =
@@ -75,14 +69,14 @@ returns-2 : tie.Need-returns-2
 returns-2 c = beyond _ _ _ _ (good (c .before .before)) (ap outside (sym (exact-is (c .before .before))) ∙ sym (c .before .is-outside .ensures) ∙ c .if2 .taken)
 
 int-to-float-t13 : tie.Need-int-to-float-t13
-int-to-float-t13 c = castable _ (sym (c .before .before .is-outside .ensures) ∙ c .before .if2 .left)
+int-to-float-t13 c = castable _ _ (lit≤ tt) (lit≤ tt) _ (sym (c .before .before .is-outside .ensures) ∙ c .before .if2 .left)
 
 returns-3 : tie.Need-returns-3
-unfolding metres
+unfolding ofBits round metres
 returns-3 c =
     let product = c .before .before .before in
     let inside = ap outside (sym (exact-is product)) ∙ sym (c .before .before .is-outside .ensures) ∙ c .before .if2 .left in
-    rw (exact-is product, million) (within _ _ _ _ (good product) inside)
+    rw (exact-is product) (within _ _ _ _ (good product) inside)
 
 pub place-along-spec : {M : Type 1} → statement M
 place-along-spec =

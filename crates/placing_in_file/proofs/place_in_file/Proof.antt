@@ -1,9 +1,6 @@
 -- `placing_in_file::place_in_file` meets its contract: what is placed is the answer of `stored_reading`, case by case (`answered`). Assumes nothing.
-use mathlib.Core.Path.{_∙_}
+use mathlib.Core.Path.{refl}
 use borrow.Author.Needs.{needs}
-use Rattle.livox_header.proofs.Opening.{numbered}
-use Rattle.placing.proofs.Accuracy.{both}
-use Rattle.placing_in_file.specs.InFile.{byRank}
 use Rattle.placing_in_file.proofs.Ranked.{answered}
 use Rattle.placing_in_file.proofs.place_in_file.Statement.{statement}
 use Rattle.placing_in_file.proofs.place_in_file.Tie as tie
@@ -21,16 +18,10 @@ enum-known-refusal : tie.Need-enum-known-refusal
 enum-known-refusal c = search needs
 
 returns : tie.Need-returns
-returns c =
-    let start = c .before .before .before .before .before .before in
-    both (byRank (start .args .form) (start .args .«data» .now) (start .args .rank)) (numbered _ _) _ _ _
-    (c .place .ensures .0 ∙ answered _ _ _ (start .args .form) (start .args .«data» .now) (start .args .rank) (c .before .before .reading .given .1) (c .before .before .before .before .stored-reading .ensures))
+returns c = answered _ _ _ _ _ _ (c .before .before .reading .given .1) (c .before .before .before .before .stored-reading .ensures) (c .place .ensures .0)
 
 returns-2 : tie.Need-returns-2
-returns-2 c =
-    let start = c .before .before .before .before .before in
-    both (byRank (start .args .form) (start .args .«data» .now) (start .args .rank)) (numbered _ _) _ _ _
-    (answered _ _ _ (start .args .form) (start .args .«data» .now) (start .args .rank) (c .before .refusal .given .1) (c .before .before .before .stored-reading .ensures))
+returns-2 c = answered _ _ _ _ _ _ (c .before .refusal .given .1) (c .before .before .before .stored-reading .ensures) refl
 
 pub place-in-file-spec : {M : Type 1} → statement M
 place-in-file-spec =

@@ -1,0 +1,2 @@
+-- The laws of how C is told a placing.
+pub mod Received
