@@ -1,5 +1,5 @@
--- Demand 3 holds of every placing. First what it needs of the definitions, a fact each: no other proof has their numbers, so a definition that says otherwise is refused
--- here, even where the code says the same. Then the claim, by what a placing comes to (`by-checks`). Assumes nothing.
+-- Demand 3 holds of every placing. First what it needs of the definitions, a fact each: the functions' proofs hold for other numbers as well, so that a definition which says
+-- otherwise is refused here, even where the code says the same. Then the claim, by what a placing comes to (`by-checks`). Assumes nothing.
 use Prim.Native.Nat.{ℕ, _+_, _%_, _^_, _≤_, _<_}
 use native.Mathlib.Nat.{suc-ne-zero}
 use mathlib.Core.Path.{_≡_, refl, sym, ap, _∙_, subst}

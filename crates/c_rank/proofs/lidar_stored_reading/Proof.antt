@@ -12,7 +12,7 @@ use Rattle.c_rank.proofs.lidar_stored_reading.Statement.{statement}
 use Rattle.c_rank.proofs.lidar_stored_reading.Tie as tie
 
 answer-is : {answer a : StoredAnswer} {form : Form} (lvx2 : Bool) (bytes : List ℕ) (rank : ℕ) → answer ≡ a → form ≡ formOfFlag lvx2 → ofStoredAnswer answer ≡ readingOfRank form bytes rank → ofStoredAnswer a ≡ readingOfRank (formOfFlag lvx2) bytes rank
-answer-is lvx2 bytes rank found form told = sym (ap ofStoredAnswer found) ∙ told ∙ ap (λ (f : Form). readingOfRank f bytes rank) form
+answer-is lvx2 bytes rank is form gave = sym (ap ofStoredAnswer is) ∙ gave ∙ ap (λ (f : Form). readingOfRank f bytes rank) form
 
 form-of-flag-requires : tie.Need-form-of-flag-requires
 form-of-flag-requires c κs = search needs
