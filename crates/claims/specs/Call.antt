@@ -26,7 +26,6 @@ use Rattle.velodyne.specs.Velodyne
 use Rattle.livox_form.specs.declared.Form.the-variants.{Lvx, Lvx2}
 use Rattle.livox_header.specs.Header
 use Rattle.livox_file.specs.Livox
-use Rattle.livox_stored.specs.Stored.{Stored}
 use Rattle.placing.specs.Placing
 use Rattle.placing_in_file.specs.InFile
 
@@ -43,7 +42,8 @@ pub data Call : Type 0 where
   lvx2 : LaidBy → List ℕ → List ℕ → List ℕ → Call
   -- Going through the payloads of a capture: the reading, the port, of which 0 is every one, and the file.
   capture : Reading → ℕ → List ℕ → Call
-  -- One Velodyne payload, or a Velodyne capture with its reading; then what the slices of numbers and of kinds hold at entry.
+  -- One Velodyne payload, or a Velodyne capture with its reading; then what the slices of numbers and of kinds hold at
+  -- entry.
   velodynePacket : List ℕ → List ℕ → List ℕ → Call
   velodyne : Reading → List ℕ → List ℕ → List ℕ → Call
   -- What is asked to be placed, the count, the datum and the pulse length.

@@ -1,5 +1,6 @@
--- The worked cases of placing: 1,500 mm with datum 4,294,967,000, count 704 and pulses of 250 micrometres; 16,000 mm and no pulses; one pulse of 1 micrometre
--- more. Beside them, a point of a file. A row tells the number, the exact micrometres, and the distance by its pattern.
+-- The worked cases of placing: 1,500 mm with datum 4,294,967,000, count 704 and pulses of 250 micrometres; 16,000 mm
+-- and no pulses; one pulse of 1 micrometre more. Beside them, a point of a file. A row tells the number, the exact
+-- micrometres, and the distance by its pattern.
 use Prim.Native.Nat.{ℕ}
 use mathlib.Core.List.{List, [], _∷_}
 use lib.IntN.{ℤ, pos, negℤ}

@@ -5,7 +5,8 @@ use mathlib.Core.List.{List, [], _∷_, reverse}
 use lib.ListN.{length, take, drop}
 use lib.Dec.{leb}
 
--- Which byte comes first: the least significant one, or the most significant one, as in the headers of Ethernet, IP and UDP.
+-- Which byte comes first: the least significant one, or the most significant one, as in the headers of Ethernet, IP and
+-- UDP.
 pub data ByteOrder : Type 0 where
   little big : ByteOrder
 
@@ -24,7 +25,8 @@ unfoldable pub unsignedAt : ByteOrder → ℕ → List ℕ → ℕ → ℕ
 unfolding leastFirst
 unsignedAt o k s off = value (leastFirst o (take k (drop off s)))
 
--- What a reader of k bytes at off answers: the number, wrapped as a value, or `missing` where the k bytes do not lie inside s.
+-- What a reader of k bytes at off answers: the number, wrapped as a value, or `missing` where the k bytes do not lie
+-- inside s.
 unfoldable pub field : {A : Type 0} → (ℕ → A) → A → ByteOrder → ℕ → List ℕ → ℕ → A
 unfolding unsignedAt
 field wrap missing o k s off = cond (leb (off + k) (length s)) (wrap (unsignedAt o k s off)) missing
