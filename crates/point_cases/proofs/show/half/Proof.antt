@@ -8,8 +8,8 @@ use mir.Syntax.{w32}
 use mir.Val.{ofZ, toZ}
 use mir.ValLaws.{toZ-pos}
 use borrow.Author.Needs.{needs}
-use Rattle.cases.proofs.show.half.Statement.{statement}
-use Rattle.cases.proofs.show.half.Tie as tie
+use Rattle.point_cases.proofs.show.half.Statement.{statement}
+use Rattle.point_cases.proofs.show.half.Tie as tie
 
 lower : (z : ℤ) → toZ w32 (bitAnd (ofZ w32 z) 65535) ≡ pos (ofZ w32 z % 65536)
 lower z = rw (and-mask (ofZ w32 z) 16) (toZ-pos w32 (ofZ w32 z % 65536) (omega arith))

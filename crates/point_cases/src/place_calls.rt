@@ -1,10 +1,8 @@
-// Placing, by a stored reading and by a file and a rank.
+// Placing a stored reading.
 
 use crate::show;
-use crate::words;
 use lidar::BeltCount;
 use lidar::BeltDatum;
-use lidar::Form;
 use lidar::HundredthsOfDegree;
 use lidar::Millimetres;
 use lidar::PulseLength;
@@ -14,37 +12,21 @@ use lidar::UnsignedMillimetres;
 use signed_fields::I16;
 use signed_fields::I32;
 
-pub(crate) fn run(name: &[u8], n: &[u64; 8], data: &[u8]) -> bool {
-    if check::same(name, b"place-lvx") {
-        place_in(Form::Lvx, n, data);
-        return true;
-    }
-    if check::same(name, b"place-lvx2") {
-        place_in(Form::Lvx2, n, data);
-        return true;
-    }
-    run_whole(name, n, data) || run_other(name, n)
-}
-
-fn run_whole(name: &[u8], n: &[u64; 8], data: &[u8]) -> bool {
+pub(crate) fn tell(name: &[u8], text: &[u8], data: &[u8]) -> bool {
     if check::same(name, b"millimetres") {
-        place(millimetres(data), n);
+        place(millimetres(data), text);
         return true;
     }
     if check::same(name, b"ten-millimetres") {
-        place(ten_millimetres(data), n);
+        place(ten_millimetres(data), text);
         return true;
     }
-    false
-}
-
-fn run_other(name: &[u8], n: &[u64; 8]) -> bool {
     if check::same(name, b"spherical") {
-        place(spherical(), n);
+        place(spherical(), text);
         return true;
     }
     if check::same(name, b"float") {
-        place(StoredReading::Float(0x3f800000, 0, 0), n);
+        place(StoredReading::Float(0x3f800000, 0, 0), text);
         return true;
     }
     false
@@ -72,22 +54,15 @@ fn spherical() -> StoredReading {
     }
 }
 
-fn place(reading: StoredReading, n: &[u64; 8]) {
+fn place(reading: StoredReading, text: &[u8]) {
     show::placed(lidar::place(
         reading,
-        BeltCount(words::low(n[1])),
-        BeltDatum(words::low(n[2])),
-        PulseLength(words::low(n[3])),
+        BeltCount(low(case_words::number(text, 3))),
+        BeltDatum(low(case_words::number(text, 4))),
+        PulseLength(low(case_words::number(text, 5))),
     ));
 }
 
-fn place_in(form: Form, n: &[u64; 8], data: &[u8]) {
-    show::placed(lidar::place_in_file(
-        form,
-        data,
-        words::index(n[1]),
-        BeltCount(words::low(n[2])),
-        BeltDatum(words::low(n[3])),
-        PulseLength(words::low(n[4])),
-    ));
+pub(crate) fn low(n: u64) -> u32 {
+    (n % 4294967296) as u32
 }
