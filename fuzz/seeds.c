@@ -1,5 +1,5 @@
 /* Writes the inputs that the fuzzer starts from: files with what is asked of them after their last byte,
-   as harness.c reads it. From files that are named, from the list of crates/cases, and made here.
+   as harness.c reads it. From files that are named, from the lists of cases, and made here.
 
      seeds DIRECTORY CASES FILE.. */
 #include <stdint.h>
@@ -59,7 +59,7 @@ static void from_file(const char *path)
     write_seed(bytes, len, 0, 1, 0);
 }
 
-/* A line of the list: a name, a colon, the call, its numbers, and its bytes as @PLACE=HEX. */
+/* A line of a list: a name, a colon, the call, its numbers, and its bytes as @PLACE=HEX. */
 static void from_case(char *line)
 {
     static uint8_t bytes[LONGEST];

@@ -1,5 +1,5 @@
-//! The kept list of cases: holds what the program `cases` is to write to the oracle, and makes more
-//! lines for the list. `crates/cases/src/main.rt` says what a line is.
+//! The kept lists of cases: holds what the programs `cases` and `point_cases` are to write to the
+//! oracle, and makes more lines for the lists. `crates/cases/src/main.rt` says what a line is.
 
 use crate::capture_files;
 use crate::livox_files::{self, Form};
@@ -11,8 +11,29 @@ use crate::tally::Tally;
 use crate::words::{self, Reading};
 use crate::{kitti, livox, ours, ouster, placing, velodyne};
 
-const LIST: &str = "crates/cases/stdin";
-const KEPT: &str = "crates/cases/stdout";
+/// A list that a program runs, what it is to write, and the name under which more lines are made.
+pub struct List {
+    stdin: &'static str,
+    stdout: &'static str,
+    on_points: bool,
+    pub more: &'static str,
+}
+
+/// Of the calls that read a whole file, and of those on single points.
+pub const LISTS: [List; 2] = [
+    List {
+        stdin: "crates/cases/stdin",
+        stdout: "crates/cases/stdout",
+        on_points: false,
+        more: "more-cases",
+    },
+    List {
+        stdin: "crates/point_cases/stdin",
+        stdout: "crates/point_cases/stdout",
+        on_points: true,
+        more: "more-point-cases",
+    },
+];
 
 /// The bytes of a line that is made, at most, so that the list stays short.
 const LONGEST: usize = 420;
@@ -43,10 +64,17 @@ struct Case<'a> {
 }
 
 pub fn compare(original: &Original) -> Tally {
-    let list = std::fs::read_to_string(LIST).expect("the list of cases could not be read");
-    let kept = std::fs::read_to_string(KEPT).expect("the kept answers could not be read");
-    let mut tally = Tally::new("the kept list", 0).of("cases");
-    for (k, (line, kept)) in std::iter::zip(list.lines(), kept.lines()).enumerate() {
+    let mut tally = Tally::new("the kept lists", 0).of("cases");
+    for list in &LISTS {
+        compare_list(list, original, &mut tally);
+    }
+    tally
+}
+
+fn compare_list(list: &List, original: &Original, tally: &mut Tally) {
+    let lines = std::fs::read_to_string(list.stdin).expect("the list of cases could not be read");
+    let kept = std::fs::read_to_string(list.stdout).expect("the kept answers could not be read");
+    for (k, (line, kept)) in std::iter::zip(lines.lines(), kept.lines()).enumerate() {
         tally.file(k as u64, &[], |_| {
             let case = parse(line).ok_or_else(|| format!("no case: {line}"))?;
             let told = kept
@@ -57,46 +85,46 @@ pub fn compare(original: &Original) -> Tally {
                 .map_err(|what| format!("{}: {what}", case.name))
         });
     }
-    if list.lines().count() != kept.lines().count() {
-        tally.beside("the lists", Err("are not of the same length".to_string()));
+    if lines.lines().count() != kept.lines().count() {
+        let what = format!("{} is not as long as {}", list.stdout, list.stdin);
+        tally.beside("the lists", Err(what));
     }
-    tally
 }
 
-/// Lines for the list, on standard output.
-pub fn print_more(seed: u64, of_each: u64) {
+/// Lines for a list, on standard output.
+pub fn print_more(list: &List, seed: u64, of_each: u64) {
     for case in 0..of_each {
         let mut random = Random::of_case(seed, case);
         let room = random.within(0, 8);
         let reading = random.pick(&[Reading::Rust, Reading::Savefile]);
         let read = u8::from(reading == Reading::Savefile);
         let kitti = short(&mut random, LONGEST, |random| kitti::file(random, ANY_CASE));
-        print(case, "kitti", &kitti, &format!("{room}"));
-        print(case, "kitti-bits", &kitti, &format!("{room}"));
+        list.print(case, "kitti", &kitti, &format!("{room}"));
+        list.print(case, "kitti-bits", &kitti, &format!("{room}"));
         let capture = short(&mut random, LONGEST, |random| {
             capture_files::file(random, ANY_CASE, reading).data
         });
         let (port, rank) = (random.pick(&[0, 0, 2368]), random.within(0, 2));
-        print(case, "payload", &capture, &format!("{read} {port} {rank}"));
+        list.print(case, "payload", &capture, &format!("{read} {port} {rank}"));
         for (form, name) in [(Form::Lvx, "lvx"), (Form::Lvx2, "lvx2")] {
             let file = short(&mut random, LONGEST, |random| {
                 livox_files::file(random, ANY_CASE, form)
             });
-            print(case, name, &file, &format!("{room}"));
+            list.print(case, name, &file, &format!("{room}"));
             let rank = random.within(0, 3);
-            print(case, &format!("{name}-rank"), &file, &format!("{rank}"));
+            list.print(case, &format!("{name}-rank"), &file, &format!("{rank}"));
             let belt = placing::belt(&mut random);
             let numbers = format!("{rank} {} {} {}", belt.count, belt.datum, belt.pulse_length);
-            print(case, &format!("place-{name}"), &file, &numbers);
+            list.print(case, &format!("place-{name}"), &file, &numbers);
         }
         if case % 10 == 0 {
-            print_packets(case, &mut random, room, reading);
+            print_packets(list, case, &mut random, room, reading);
         }
     }
 }
 
 /// Packets are long, so there are few of them, most of them with few points.
-fn print_packets(case: u64, random: &mut Random, room: usize, reading: Reading) {
+fn print_packets(list: &List, case: u64, random: &mut Random, room: usize, reading: Reading) {
     let read = u8::from(reading == Reading::Savefile);
     let mut packet = velodyne::packet(random);
     for (k, byte) in packet.iter_mut().enumerate().take(1200) {
@@ -104,10 +132,10 @@ fn print_packets(case: u64, random: &mut Random, room: usize, reading: Reading) 
             *byte = 0;
         }
     }
-    print(case, "packet", &packet, &format!("{room}"));
+    list.print(case, "packet", &packet, &format!("{room}"));
     let capture = capture_files::of_packets(random, reading, 2368, |_| packet.clone());
     if capture.len() <= LONGEST_PACKETS {
-        print(case, "velodyne", &capture, &format!("{room} {read}"));
+        list.print(case, "velodyne", &capture, &format!("{room} {read}"));
     }
     let settings = OusterSettings {
         columns_per_packet: random.within(0, 2),
@@ -127,7 +155,7 @@ fn print_packets(case: u64, random: &mut Random, room: usize, reading: Reading) 
         settings.lidar_port,
         random.pick(&[16, 32, 129]),
     );
-    print(case, "ouster", &capture, &numbers);
+    list.print(case, "ouster", &capture, &numbers);
 }
 
 /// A file that is short enough, or else the beginning of one.
@@ -143,12 +171,18 @@ fn short(random: &mut Random, longest: usize, file: impl Fn(&mut Random) -> Vec<
     data
 }
 
-fn print(case: u64, call: &str, data: &[u8], numbers: &str) {
-    println!(
-        "made {case} {call}: {call} {} {numbers}{}",
-        data.len(),
-        put(data)
-    );
+impl List {
+    /// The line of a case, if it is for this list.
+    fn print(&self, case: u64, call: &str, data: &[u8], numbers: &str) {
+        let on_points = call.ends_with("-rank") || call.starts_with("place-");
+        if on_points == self.on_points {
+            println!(
+                "made {case} {call}: {call} {} {numbers}{}",
+                data.len(),
+                put(data)
+            );
+        }
+    }
 }
 
 /// The bytes as words, without longer runs of zeros.

@@ -79,7 +79,7 @@ const COMPARISONS: [Comparison; 15] = [
     ("lister", |run, seed, files| {
         lister::compare(&run.original, &run.lister, seed, files.div_ceil(10))
     }),
-    // The same list each time, whatever the seed.
+    // The same lists each time, whatever the seed.
     ("cases", |run, _, _| cases::compare(&run.original)),
     // A placing takes no file and is quick.
     ("placing", |_, seed, files| {
@@ -95,9 +95,11 @@ fn main() -> ExitCode {
     let (Ok(seed), Ok(files)) = (seed.parse(), files.parse()) else {
         return usage();
     };
-    if named == ["more-cases"] {
-        cases::print_more(seed, files);
-        return ExitCode::SUCCESS;
+    for list in &cases::LISTS {
+        if named == [list.more] {
+            cases::print_more(list, seed, files);
+            return ExitCode::SUCCESS;
+        }
     }
     if named
         .iter()

@@ -1,6 +1,7 @@
 // Runs a list of cases from standard input, a line for each, and writes a line for what each call
-// tells, so that a wrong value changes what is written. A case is what it is called, a colon, the
-// call, its numbers, and its file's bytes, as in
+// tells, so that a wrong value changes what is written. Here are the calls that read a whole file;
+// `point_cases` runs those on single points. A case is what it is called, a colon, the call, its
+// numbers, and its file's bytes, as in
 //
 //     lvx 28 bytes: lvx 28 8 @0=6c69766f785f74656368 @20=67a70eac
 //
@@ -8,32 +9,32 @@
 // The other numbers are, by the call:
 //
 //     kitti, kitti-bits, packet, lvx, lvx2     room
-//     velodyne                                 room, reading
+//     velodyne, os1-64, os-128                 room, reading
 //     ouster                                   room, reading, columns, beams, port, elevations
-//     os1-64, os-128                           room, reading
 //     payload                                  reading, port, rank
-//     lvx-rank, lvx2-rank                      rank
-//     millimetres, ten-millimetres             count, datum, pulse length; the bytes are the reading
-//     spherical, float                         count, datum, pulse length
-//     place-lvx, place-lvx2                    rank, count, datum, pulse length
 //
 // The room is in points, at most 8. A reading is 0 for the Rust's and 1 for the savefile's, and 2 has
 // the call that names none. Every elevation that is lent is half its channel's number. A reader's line
 // shows all of both slices as they are left: the kinds were 9 before, and the numbers 7.
 
-mod capture_calls;
-mod livox_calls;
-mod placing_calls;
+mod parameters;
+mod pattern_calls;
+mod payload_calls;
 mod show;
-mod words;
+mod value_calls;
 
 use input::Ended;
 use libc::STDIN_FILENO;
-ghost use mathlib.Core.Path.{_≡_};
-ghost use lib.ListN.{length};
+use lidar::Answer;
+
+// What a reader tells.
+enum Told {
+    Answer(Answer),
+    NoSuchCall,
+}
 
 fn main() {
-    let mut space = zeros();
+    let mut space = case_words::list_buffer();
     let len = io::read_full(STDIN_FILENO, &mut space);
     let mut next = [0u8; 1];
     let more = libc::read(STDIN_FILENO, &mut next);
@@ -44,13 +45,6 @@ fn main() {
         }
         Ended::Failed => os::fail(b"cases: standard input"),
     }
-}
-
-// As `io::large_buffer`, for a list of this length.
-fn zeros() -> [u8; 262144]
-    ensures { λ r. ⌜ 262144 ≡ length r ⌝ }
-{
-    [0; 262144]
 }
 
 // Goes on while what is told can be written.
@@ -71,31 +65,24 @@ fn case(line: &[u8]) -> bool {
         return false;
     }
     show::write(b":");
-    if line.len() - colon < 2 {
-        return true;
-    }
-    call(&line[colon + 2..line.len()]);
+    call(&line[colon..line.len()]);
     show::write(b"\n")
 }
 
+// Words are counted from the colon, which is word 0: the call is word 1, and the file's length word 2.
 fn call(text: &[u8]) {
-    let mut numbers = [0u64; 8];
     let mut space = [0u8; 32768];
-    let blank = bytes::scan::find(text, 0, text.len(), b' ');
-    words::take(&text[blank..text.len()], &mut numbers, &mut space);
-    run_call(&text[0..blank], &numbers, &space);
+    case_words::lay(text, &mut space);
+    let data = case_words::front(&space, case_words::number(text, 2));
+    if !tell(case_words::word(text, 1), text, data) {
+        show::write(b" no such call");
+    }
 }
 
-fn run_call(name: &[u8], numbers: &[u64; 8], space: &[u8; 32768]) {
-    let data = words::front(space, numbers[0]);
-    if capture_calls::run(name, numbers, data) {
-        return;
+fn tell(name: &[u8], text: &[u8], data: &[u8]) -> bool {
+    if check::same(name, b"payload") {
+        payload_calls::tell(text, data);
+        return true;
     }
-    if livox_calls::run(name, numbers, data) {
-        return;
-    }
-    if placing_calls::run(name, numbers, data) {
-        return;
-    }
-    show::write(b" no such call");
+    value_calls::tell(name, text, data) || pattern_calls::tell(name, text, data)
 }

@@ -40,11 +40,11 @@ write-requires c κs = search needs
 loop-holds : tie.Need-loop-holds Inv-loop μ-loop
 loop-holds c = search needs
 
-shared-slice-read-small : tie.Need-shared-slice-read-small Inv-loop μ-loop
-shared-slice-read-small c = search needs
+shared-slice-read-wide : tie.Need-shared-slice-read-wide Inv-loop μ-loop
+shared-slice-read-wide c = search needs
 
-small-requires : tie.Need-small-requires Inv-loop μ-loop
-small-requires c κs = search needs
+wide-requires : tie.Need-wide-requires Inv-loop μ-loop
+wide-requires c κs = search needs
 
 write-number-requires-4 : tie.Need-write-number-requires-4 Inv-loop μ-loop
 write-number-requires-4 c κs = search needs
@@ -77,8 +77,8 @@ answer-spec =
     slice-aggregate-write
     write-requires
     loop-holds
-    shared-slice-read-small
-    small-requires
+    shared-slice-read-wide
+    wide-requires
     write-number-requires-4
     add-i
     loop-less

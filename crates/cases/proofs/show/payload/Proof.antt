@@ -25,11 +25,11 @@ write-requires c κs = search needs
 loop-holds : tie.Need-loop-holds Inv-loop μ-loop
 loop-holds c = search needs
 
-shared-slice-read-small : tie.Need-shared-slice-read-small Inv-loop μ-loop
-shared-slice-read-small c = search needs
+shared-slice-read-wide : tie.Need-shared-slice-read-wide Inv-loop μ-loop
+shared-slice-read-wide c = search needs
 
-small-requires : tie.Need-small-requires Inv-loop μ-loop
-small-requires c κs = search needs
+wide-requires : tie.Need-wide-requires Inv-loop μ-loop
+wide-requires c κs = search needs
 
 print-hex-requires : tie.Need-print-hex-requires Inv-loop μ-loop
 print-hex-requires c κs = search needs
@@ -60,8 +60,8 @@ payload-spec =
     slice-aggregate-write
     write-requires
     loop-holds
-    shared-slice-read-small
-    small-requires
+    shared-slice-read-wide
+    wide-requires
     print-hex-requires
     told-requires
     add-i
