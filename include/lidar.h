@@ -200,9 +200,10 @@ bool lidar_next_payload(const uint8_t *data, size_t data_len,
    pulse_length   how far the belt moves in a pulse: 1 to 1000 micrometres
    metres         takes the distance along the belt. A refusal leaves it as it was
 
-   The exact distance is the point's x in micrometres plus (count - datum) * pulse_length. What is told
-   is within half a micrometre of it, however often the count has wrapped, as long as the belt moved by
-   less than 2^31 pulses either way. Beyond 16 m either way it is refused with LIDAR_OUTSIDE_WINDOW. */
+   The exact distance is the point's x in micrometres, plus the pulses since the datum, below 0 where the
+   belt ran back, times pulse_length. What is told is within half a micrometre of it, however often the
+   count has wrapped, as long as the belt moved by less than 2^31 pulses either way. Beyond 16 m either
+   way it is refused with LIDAR_OUTSIDE_WINDOW. */
 
 /* Places a point by its stored x: in millimetres (LVX and LVX2 type 1), or in counts of ten
    millimetres (LVX2 type 0). */

@@ -8,7 +8,7 @@ use native.Mathlib.Omega.{arith}
 use lib.ListN.{length, take, drop, getD, set, length-drop, drop-of-length-le}
 use lib.Seq.{sets, take-all, take-length, drop-cons}
 use Rattle.bytes.specs.Bytes.{indexOf, slice}
-use Rattle.case_words.specs.Words.{byteOf, bytesOf, laid, numberOf}
+use Rattle.case_words.specs.Words.{byteOf, bytesOf, laid, decimalValue}
 
 few : (hex : List ℕ) → length hex < 2 → bytesOf hex ≡ []
 unfolding bytesOf
@@ -41,7 +41,7 @@ module _ (word bytes : List ℕ) (mark : ℕ) (e : mark ≡ 0 + indexOf 61 (slic
   unfolding slice
   mark-is = let is : mark ≡ 0 + indexOf 61 word = rw take-length at e in omega arith
 
-  pub marked : laid bytes word ≡ sets bytes (numberOf (take (mark - 0) word)) (bytesOf (take (length word - (mark + 1)) (drop (mark + 1) word)))
+  pub marked : laid bytes word ≡ sets bytes (decimalValue (take (mark - 0) word)) (bytesOf (take (length word - (mark + 1)) (drop (mark + 1) word)))
   unfolding laid
   marked = rw (mark-is, take-all (length word - (mark + 1)) (drop (mark + 1) word) (simp length-drop (omega arith)), add-one, sub-zero)
 

@@ -29,8 +29,8 @@ unfoldable pub withDigit : ℕ → ℕ → ℕ
 withDigit n b = cond (ltb n 1844674407370955161) (n * 10 + b % 16) n
 
 -- The number that a word is.
-abbrev pub numberOf : List ℕ → ℕ
-numberOf word = foldl withDigit 0 word
+abbrev pub decimalValue : List ℕ → ℕ
+decimalValue word = foldl withDigit 0 word
 
 -- The value of a hexadecimal digit, 0 to 9 or a to f: the last four bits of its byte, which for a letter is lowered by 7.
 unfoldable pub hexDigit : ℕ → ℕ
@@ -48,7 +48,7 @@ bytesOf (high ∷ low ∷ hex) = byteOf high low ∷ bytesOf hex
 -- The data with the bytes of a word at its place: @20=67a7 has two bytes, for place 20 and the next. What lies past the
 -- end is left out, and a word without = has no bytes.
 unfoldable pub laid : List ℕ → List ℕ → List ℕ
-laid bytes word = sets bytes (numberOf (take (indexOf 61 word) word)) (bytesOf (drop (suc (indexOf 61 word)) word))
+laid bytes word = sets bytes (decimalValue (take (indexOf 61 word) word)) (bytesOf (drop (suc (indexOf 61 word)) word))
 
 -- The same for words one after the other.
 abbrev pub laidAll : List ℕ → List (List ℕ) → List ℕ

@@ -5,7 +5,7 @@ ghost use Prim.Native.Nat.{_+_};
 ghost use lib.ListN.{replicate, set, take};
 ghost use lib.Seq.{sets};
 ghost use Rattle.case_words.specs.Pattern.{patternOf};
-ghost use Rattle.case_words.specs.Words.{byteOf, bytesOf, hexDigit, laid, laidAll, numberOf, withDigit, wordOf, wordsOf};
+ghost use Rattle.case_words.specs.Words.{byteOf, bytesOf, hexDigit, laid, laidAll, decimalValue, withDigit, wordOf, wordsOf};
 
 // The word of a rank; where there is none, an empty one.
 pub fn word(text: &[u8], rank: usize) -> &[u8]
@@ -26,7 +26,7 @@ pub fn word(text: &[u8], rank: usize) -> &[u8]
 
 // The number that the word of a rank is.
 pub fn number(text: &[u8], rank: usize) -> u64
-    ensures { λ r. ⌜ r ≡ numberOf (wordOf (now (text .entry)) rank) ⌝ }
+    ensures { λ r. ⌜ r ≡ decimalValue (wordOf (now (text .entry)) rank) ⌝ }
 {
     decimal(word(text, rank))
 }
@@ -125,7 +125,7 @@ fn hex_digit(b: u8) -> u8
 }
 
 fn decimal(word: &[u8]) -> u64
-    ensures { λ r. ⌜ r ≡ numberOf (now (word .entry)) ⌝ }
+    ensures { λ r. ⌜ r ≡ decimalValue (now (word .entry)) ⌝ }
 {
     let mut n: u64 = 0;
     for i in 0..word.len() {

@@ -28,7 +28,7 @@ use libc::STDIN_FILENO;
 use lidar::Answer;
 
 // What a reader tells.
-enum Told {
+enum Called {
     Answer(Answer),
     NoSuchCall,
 }

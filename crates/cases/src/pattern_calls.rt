@@ -1,6 +1,6 @@
 // The readers by patterns: KITTI and both Livox forms.
 
-use crate::Told;
+use crate::Called;
 use crate::parameters;
 use crate::show;
 
@@ -22,7 +22,7 @@ fn tell_in_room(
     if room <= kinds.len() {
         if count <= bits.len() {
             let told = read(name, data, &mut bits[0..count], &mut kinds[0..room]);
-            let Told::Answer(answer) = told else {
+            let Called::Answer(answer) = told else {
                 return false;
             };
             show::answer(answer, &kinds[0..room]);
@@ -32,15 +32,15 @@ fn tell_in_room(
     true
 }
 
-fn read(name: &[u8], data: &[u8], bits: &mut [u32], kinds: &mut [u8]) -> Told {
+fn read(name: &[u8], data: &[u8], bits: &mut [u32], kinds: &mut [u8]) -> Called {
     if check::same(name, b"kitti-bits") {
-        return Told::Answer(lidar::read_kitti_bits(data, bits, kinds));
+        return Called::Answer(lidar::read_kitti_bits(data, bits, kinds));
     }
     if check::same(name, b"lvx") {
-        return Told::Answer(lidar::read_lvx_bits(data, bits, kinds));
+        return Called::Answer(lidar::read_lvx_bits(data, bits, kinds));
     }
     if check::same(name, b"lvx2") {
-        return Told::Answer(lidar::read_lvx2_bits(data, bits, kinds));
+        return Called::Answer(lidar::read_lvx2_bits(data, bits, kinds));
     }
-    Told::NoSuchCall
+    Called::NoSuchCall
 }

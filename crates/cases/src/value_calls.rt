@@ -1,6 +1,6 @@
 // The readers by values: KITTI, Velodyne and Ouster.
 
-use crate::Told;
+use crate::Called;
 use crate::parameters;
 use crate::show;
 use lidar::Answer;
@@ -31,7 +31,7 @@ fn tell_in_room(
                 &mut numbers[0..count],
                 &mut kinds[0..room],
             );
-            let Told::Answer(answer) = told else {
+            let Called::Answer(answer) = told else {
                 return false;
             };
             show::answer(answer, &kinds[0..room]);
@@ -41,16 +41,16 @@ fn tell_in_room(
     true
 }
 
-fn read(name: &[u8], text: &[u8], data: &[u8], numbers: &mut [f32], kinds: &mut [u8]) -> Told {
+fn read(name: &[u8], text: &[u8], data: &[u8], numbers: &mut [f32], kinds: &mut [u8]) -> Called {
     if check::same(name, b"kitti") {
-        return Told::Answer(lidar::read_kitti(data, numbers, kinds));
+        return Called::Answer(lidar::read_kitti(data, numbers, kinds));
     }
     if check::same(name, b"packet") {
-        return Told::Answer(lidar::decode_velodyne_packet(data, numbers, kinds));
+        return Called::Answer(lidar::decode_velodyne_packet(data, numbers, kinds));
     }
     let reading = case_words::number(text, 4);
     if check::same(name, b"velodyne") {
-        return Told::Answer(read_velodyne(reading, data, numbers, kinds));
+        return Called::Answer(read_velodyne(reading, data, numbers, kinds));
     }
     read_ouster_of(name, text, reading, data, numbers, kinds)
 }
@@ -69,23 +69,30 @@ fn read_ouster_of(
     data: &[u8],
     numbers: &mut [f32],
     kinds: &mut [u8],
-) -> Told {
+) -> Called {
     if check::same(name, b"os1-64") {
         let settings = OusterSettings::os1_64();
         let altitudes = OusterSettings::os1_64_altitudes();
-        return Told::Answer(read_ouster(reading, data, settings, &altitudes, numbers, kinds));
+        return Called::Answer(read_ouster(reading, data, settings, &altitudes, numbers, kinds));
     }
     if check::same(name, b"os-128") {
         let settings = OusterSettings::os_128();
         let altitudes = OusterSettings::os_128_altitudes();
-        return Told::Answer(read_ouster(reading, data, settings, &altitudes, numbers, kinds));
+        return Called::Answer(read_ouster(reading, data, settings, &altitudes, numbers, kinds));
     }
     if check::same(name, b"ouster") {
         let halves = halves();
         let altitudes = lent(&halves, case_words::number(text, 8) as usize);
-        return Told::Answer(read_ouster(reading, data, settings(text), altitudes, numbers, kinds));
+        return Called::Answer(read_ouster(
+            reading,
+            data,
+            settings(text),
+            altitudes,
+            numbers,
+            kinds,
+        ));
     }
-    Told::NoSuchCall
+    Called::NoSuchCall
 }
 
 fn read_ouster(

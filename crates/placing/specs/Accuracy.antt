@@ -1,7 +1,8 @@
--- Demand 3, in whole numbers. However often the count has wrapped, a distance that is told of a whole-millimetre
--- point is within half a micrometre of the exact one; and where checks 1 to 7 let the file through, with a pulse
--- length of 1 to 1,000, the point is refused exactly beyond 16 m, with 13. Only what a placing gives back is shared
--- with `Placing`.
+-- Demand 3, in whole numbers. However often the count has wrapped, where count and datum stand for whole counts less
+-- than 2 ^ 31 apart, a distance that is told of a whole-millimetre point is within half a micrometre of the exact one;
+-- and where checks 1 to 7 let the file through, with a pulse length of 1 to 1,000, the point is refused exactly beyond
+-- 16 m, with 13. The stored reading and the file's checks are those of the readers; of `Placing` only what a placing
+-- gives back is shared.
 use Prim.Native.Nat.{ℕ, zero, suc, _+_, _-_, _*_, _/_, _%_, _^_, _≤_, _<_}
 use mathlib.Core.Path.{_≡_}
 use mathlib.Core.Bool.{Bool, true, false, cond}
@@ -28,7 +29,8 @@ low32 (pos n) = n % 2 ^ 32
 low32 (negsuc n) = 2 ^ 32 - 1 - n % 2 ^ 32
 
 -- d is the exact distance in micrometres: a whole-millimetre point's, moved by the pulses. They are the difference of
--- any two whole counts less than 2 ^ 31 apart of which count and datum are the low 32 bits.
+-- two whole counts less than 2 ^ 31 apart of which count and datum are the low 32 bits. `Accurate` speaks of every such
+-- d, and so of every two.
 pub record ExactDistance (reading : Option Stored) (count datum pulseLength : ℕ) (d : ℤ) : Type 0 where
   pub x : ℤ
   pub is-seen : seenAt reading ≡ some x

@@ -63,7 +63,7 @@ pub fn judge(bytes: &[u8], reading: Reading, port: u16) -> Verdict
     judge_udp(bytes, ip, (first % 16) as usize, reading, port)
 }
 
-// The tests from the IP header on.
+// The tests from the IHL on.
 fn judge_udp(bytes: &[u8], ip: usize, words: usize, reading: Reading, port: u16) -> Verdict
     requires { ⌜ (42 ≤ length (now bytes)) × (ip ≡ ipStart (now bytes)) × (ip ≤ 18) × (words ≡ ihl (now bytes)) × (words < 16) ⌝ }
     ensures { λ r. ⌜ r ≡ firstThat (udpTests reading port (now (bytes .entry))) (payloadOf reading (now (bytes .entry))) ⌝ }

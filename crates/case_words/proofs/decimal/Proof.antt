@@ -6,12 +6,12 @@ use native.Mathlib.Numerals.{add-one}
 use lib.ListN.{drop-of-length-le, drop}
 use lib.Seq.{drop-cons}
 use borrow.Author.Needs.{needs}
-use Rattle.case_words.specs.Words.{withDigit, numberOf}
+use Rattle.case_words.specs.Words.{withDigit, decimalValue}
 use Rattle.case_words.proofs.decimal.Tie as tie
 use Rattle.case_words.proofs.decimal.Statement.{statement}
 
 abbrev Inv-loop : tie.InvT-loop
-Inv-loop word n₀ i₀ i-end n i = foldl withDigit n (drop i word) ≡ numberOf word
+Inv-loop word n₀ i₀ i-end n i = foldl withDigit n (drop i word) ≡ decimalValue word
 
 abbrev μ-loop : tie.MeasureT-loop
 μ-loop word n₀ i₀ i-end n i = i-end - i
