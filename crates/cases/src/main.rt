@@ -17,6 +17,7 @@
 // the call that names none. Every elevation that is lent is half its channel's number. A reader's line
 // shows all of both slices as they are left: the kinds were 9 before, and the numbers 7.
 
+mod ouster_parameters;
 mod parameters;
 mod pattern_calls;
 mod payload_calls;
@@ -25,13 +26,6 @@ mod value_calls;
 
 use input::Ended;
 use libc::STDIN_FILENO;
-use lidar::Answer;
-
-// What a reader tells.
-enum Called {
-    Answer(Answer),
-    NoSuchCall,
-}
 
 fn main() {
     let mut space = case_words::list_buffer();

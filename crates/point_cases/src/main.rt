@@ -2,7 +2,7 @@
 // tells, so that a wrong value changes what is written. Here are the calls on single points; `cases`
 // runs those that read a whole file, and says what a line is, as in
 //
-//     beyond 16 m: millimetres 4 0 0 250 @0=813e
+//     placing 1 mm beyond 16 m: millimetres 4 0 0 1 @0=813e
 //
 // The first number is the length of the file, or of the reading. The other numbers are, by the call:
 //

@@ -1,8 +1,8 @@
--- `value_calls::halves` is safe and ends. Assumes nothing.
+-- `ouster_parameters::halves` is safe and ends. Assumes nothing.
 use Prim.Native.Nat.{_-_}
 use borrow.Author.Needs.{needs}
-use Rattle.cases.proofs.value_calls.halves.Statement.{statement}
-use Rattle.cases.proofs.value_calls.halves.Tie as tie
+use Rattle.cases.proofs.ouster_parameters.halves.Statement.{statement}
+use Rattle.cases.proofs.ouster_parameters.halves.Tie as tie
 
 abbrev Inv-loop : tie.InvT-loop
 Inv-loop altitudes₀ next₀ i₀ altitudes next i = Unit
