@@ -1,46 +1,44 @@
-/* Calls every C form on bytes that a fuzzer makes, and holds what include/lidar.h says of it.
+/* Calls every C form on bytes that a fuzzer makes, and holds what include/lidar.h says of it, with every
+   value held to the decoder.
 
-   Each call runs in two builds of the library. The shipped one gets its buffers between pages that trap,
+   Each call runs in every build of the library. The shipped one gets its buffers between pages that trap,
    flush with one side or the other. The guided one, the same modules compiled with the coverage that the
-   fuzzer follows and with the address sanitizer, gets them from the heap. Both have to tell the same. */
-#include <stdlib.h>
-#include <string.h>
+   fuzzer follows and with the address sanitizer, gets them from the heap. Without GUIDED there is the
+   shipped one alone. */
+#include "harness.h"
 
+#include <sys/mman.h>
+
+#include "asked.h"
+#include "bytes.h"
+#include "decoder.h"
 #include "lent.h"
 #include "library.h"
 
+struct build {
+    struct library library;
+    bool heap;
+};
+
+#define NAMED(call) .call = lidar_##call,
+#ifdef GUIDED
+/* Both are in one program, so the names of the shipped one stand behind shipped_. */
 #define DECLARE(call) extern __typeof__(lidar_##call) shipped_lidar_##call;
 CALLS(DECLARE)
-
-#define GUIDED(call) .call = lidar_##call,
-static const struct library guided = {CALLS(GUIDED)};
-
 #define SHIPPED(call) .call = shipped_lidar_##call,
-static const struct library shipped = {CALLS(SHIPPED)};
+static const struct build builds[] = {{{CALLS(NAMED)}, true}, {{CALLS(SHIPPED)}, false}};
+#else
+static const struct build builds[] = {{{CALLS(NAMED)}, false}};
+#endif
 
 enum {
-    /* With more points, the count alone is held. */
-    MOST_POINTS = 1 << 14,
-    LONGEST = 1 << 16,
-    MOST_BEAMS = 130,
+    BUILDS = sizeof builds / sizeof *builds,
     RANKS = 6,
-    VELODYNE_PORT = 2368,
-    SETTINGS = 32
+    ALTITUDES_BEYOND = 2
 };
 
-/* What is asked beside the data: the last bytes of the input, so that a file in front of them stays a
-   file. An input without them asks with zeros. */
-struct asked {
-    uint8_t sides;           /* a bit for each buffer: flush with the start of its pages or with their end */
-    uint8_t beyond;          /* how much more room than needed: numbers, kinds */
-    uint16_t port;
-    uint8_t columns;
-    uint8_t beams;
-    uint8_t altitudes;       /* how many elevations, beside the beams */
-    uint32_t canary;
-    uint32_t count, datum, pulse_length;
-    uint64_t rank;           /* also a place in a capture */
-};
+/* The reading of the calls that name none: the Rust's. */
+static const bool usual_is_savefile = false;
 
 enum reader {
     KITTI, KITTI_BITS, LVX, LVX_BITS, LVX2, LVX2_BITS, VELODYNE, VELODYNE_AS, PACKET, OUSTER, OUSTER_AS
@@ -49,122 +47,30 @@ enum reader {
 struct run {
     const struct library *library;
     bool heap;
+    uint8_t sides, beyond;
+    uint32_t canary;
+    uint64_t rank;
+    struct belt belt;
+    struct ouster ouster;
     bool savefile;
-    struct asked asked;
-    size_t columns, beams, altitudes_len;
     const uint8_t *data;
     size_t len;
-    uint64_t sum;  /* of all that was told */
 };
 
-struct told {
-    uint8_t number;
-    size_t points, frames;
-};
-
-/* A copy of what a reader told. */
-struct cloud {
-    struct told told;
-    uint32_t bits[3 * MOST_POINTS];
-    uint8_t kinds[MOST_POINTS];
-};
+/* What the file means. Of two: by the form, LVX first, or by the reading, the Rust's first. */
+static struct {
+    struct cloud kitti, livox[2], velodyne[2], ouster[2], packet;
+} meant;
 
 static struct lent data, packet, numbers, kinds, altitudes;
-static struct cloud first, second;
-
-static void sum(struct run *run, uint64_t told)
-{
-    run->sum = (run->sum ^ told) * 0x9E3779B97F4A7C15u;
-    run->sum ^= run->sum >> 29;
-}
-
-static uint16_t u16_at(const uint8_t *at) { return (uint16_t)(at[0] | at[1] << 8); }
-static uint32_t u32_at(const uint8_t *at) { return u16_at(at) | (uint32_t)u16_at(at + 2) << 16; }
-static uint64_t u64_at(const uint8_t *at) { return u32_at(at) | (uint64_t)u32_at(at + 4) << 32; }
-
-static bool is_nan(uint32_t bits) { return (bits & 0x7fffffffu) > 0x7f800000u; }
-
-static uint32_t bits_of(float x)
-{
-    uint32_t bits;
-    memcpy(&bits, &x, 4);
-    return bits;
-}
-
-/* ---- the checks of a file, by the words of the numbers' table */
-
-static uint8_t capture_number(const uint8_t *bytes, size_t len)
-{
-    if (len < 24)
-        return LIDAR_TOO_SHORT;
-    uint32_t magic = u32_at(bytes);
-    return magic == 0xa1b2c3d4u || magic == 0xd4c3b2a1u || magic == 0xa1b23c4du || magic == 0x4d3cb2a1u
-               ? LIDAR_READ
-               : LIDAR_WRONG_MARK;
-}
-
-static uint8_t lvx_number(const uint8_t *bytes, size_t len)
-{
-    if (len < 24)
-        return LIDAR_TOO_SHORT;
-    if (memcmp(bytes, "livox_tech", 10) != 0)
-        return LIDAR_WRONG_MARK;
-    if (u32_at(bytes + 20) != 0xAC0EA767u)
-        return LIDAR_WRONG_CODE;
-    if (len < 29)
-        return LIDAR_HEADER_TOO_SHORT;
-    return 29 + 59 * (size_t)bytes[28] > len ? LIDAR_DEVICES_PAST_END : LIDAR_READ;
-}
-
-static uint8_t lvx2_number(const uint8_t *bytes, size_t len)
-{
-    if (len < 28)
-        return LIDAR_TOO_SHORT;
-    if (u32_at(bytes) != 0x20200903u)
-        return LIDAR_WRONG_MARK;
-    return (uint64_t)u32_at(bytes + 8) + 41 * (uint64_t)bytes[24] > len ? LIDAR_DEVICES_PAST_END
-                                                                       : LIDAR_READ;
-}
-
-static bool good_settings(const struct run *run)
-{
-    return (run->beams == 16 || run->beams == 32 || run->beams == 64 || run->beams == 128) &&
-           run->columns >= 1 && run->columns <= 64 && run->altitudes_len >= run->beams;
-}
 
 /* ---- the readers */
 
-static bool is_livox(enum reader reader) { return reader >= LVX && reader <= LVX2_BITS; }
-
-/* The number that comes before the points are looked for. */
-static uint8_t file_number(const struct run *run, enum reader reader)
-{
-    switch (reader) {
-    case KITTI:
-    case KITTI_BITS:
-        return run->len % 16 ? LIDAR_NOT_WHOLE_RECORDS : LIDAR_READ;
-    case LVX:
-    case LVX_BITS:
-        return lvx_number(run->data, run->len);
-    case LVX2:
-    case LVX2_BITS:
-        return lvx2_number(run->data, run->len);
-    case OUSTER:
-    case OUSTER_AS:
-        if (!good_settings(run))
-            return LIDAR_BAD_SETTINGS;
-        return capture_number(run->data, run->len);
-    case PACKET:
-        return LIDAR_READ;
-    default:
-        return capture_number(run->data, run->len);
-    }
-}
-
-static uint8_t call(struct run *run, enum reader reader, const uint8_t *bytes, size_t len,
+static uint8_t call(const struct run *run, enum reader reader, const uint8_t *bytes, size_t len,
                     size_t numbers_len, size_t kinds_len, size_t *points, size_t *frames)
 {
     const struct library *library = run->library;
+    const struct ouster *ouster = &run->ouster;
     float *values = (float *)(void *)numbers.bytes;
     uint32_t *bits = (uint32_t *)(void *)numbers.bytes;
     const float *lent_altitudes = (const float *)(const void *)altitudes.bytes;
@@ -190,488 +96,412 @@ static uint8_t call(struct run *run, enum reader reader, const uint8_t *bytes, s
     case PACKET:
         return library->decode_velodyne_packet(bytes, len, LENT(values));
     case OUSTER:
-        return library->read_ouster(bytes, len, run->columns, run->beams, run->asked.port,
-                                    lent_altitudes, run->altitudes_len, LENT(values));
+        return library->read_ouster(bytes, len, ouster->columns, ouster->beams, ouster->port,
+                                    lent_altitudes, ouster->altitudes_len, LENT(values));
     default:
-        return library->read_ouster_as(bytes, len, run->savefile, run->columns, run->beams,
-                                       run->asked.port, lent_altitudes, run->altitudes_len, LENT(values));
+        return library->read_ouster_as(bytes, len, run->savefile, ouster->columns, ouster->beams,
+                                       ouster->port, lent_altitudes, ouster->altitudes_len, LENT(values));
     }
 #undef LENT
 }
 
-/* One call with so much room. Holds what is said of every answer. */
-static struct told read_in(struct run *run, enum reader reader, const uint8_t *bytes, size_t len,
-                           size_t numbers_len, size_t kinds_len)
+/* By pattern every bit is told; by value, which NaN is left open. */
+static bool same_numbers(enum reader reader, const uint32_t *bits, size_t points)
 {
-    const size_t canary = (size_t)run->asked.canary << 32 | 0x5a5a5a5a;
-    size_t out[5] = {canary, canary, canary, canary, canary};
-    struct told told;
-
-    lend(&numbers, 4 * numbers_len, run->heap, run->asked.sides & 2, run->asked.canary);
-    lend(&kinds, kinds_len, run->heap, run->asked.sides & 4, run->asked.canary);
-    told.number = call(run, reader, bytes, len, numbers_len, kinds_len, &out[1], &out[3]);
-    told.points = out[1];
-    told.frames = out[3];
-    HOLD(out[0] == canary && out[2] == canary && out[4] == canary);
-    sum(run, told.number);
-    sum(run, told.points);
-    sum(run, told.frames);
-
-    if (told.number == LIDAR_READ) {
-        HOLD(told.points <= numbers_len / 3 && told.points <= kinds_len);
-        HOLD(is_livox(reader) ? told.frames == 0 || told.frames <= len - 23 : told.frames == 0);
-        lent_kept(&numbers, 12 * told.points);
-        lent_kept(&kinds, told.points);
-    } else {
-        HOLD(told.frames == 0);
-        if (told.number == LIDAR_NO_ROOM)
-            HOLD(told.points > numbers_len / 3 || told.points > kinds_len);
-        else
-            HOLD(told.points == 0);
-        lent_kept(&numbers, 0);
-        lent_kept(&kinds, 0);
-    }
-    return told;
-}
-
-static void sum_points(struct run *run, enum reader reader, size_t points)
-{
+    if (memcmp(numbers.bytes, bits, 12 * points) == 0)
+        return true;
+    if (reader == KITTI_BITS || reader == LVX_BITS || reader == LVX2_BITS)
+        return false;
     for (size_t i = 0; i < 3 * points; i++) {
-        uint32_t bits = u32_at(numbers.bytes + 4 * i);
-        sum(run, is_nan(bits) && reader != KITTI_BITS && reader != LVX_BITS ? 0x7fc00000 : bits);
+        uint32_t told = u32_at(numbers.bytes + 4 * i);
+        if (told != bits[i] && !(is_nan(told) && is_nan(bits[i])))
+            return false;
     }
-    for (size_t i = 0; i < points; i++)
-        sum(run, kinds.bytes[i]);
+    return true;
 }
 
-/* A reader with too little room, with just enough and with more. What it told of more stays in the two
-   buffers, for at most MOST_POINTS points; with more points, told.points is the count alone, and it is
-   told as LIDAR_NO_ROOM. */
-static struct told hold_reader(struct run *run, enum reader reader, const uint8_t *bytes, size_t len)
+/* One call with so much room. */
+static void hold_call(const struct run *run, enum reader reader, const uint8_t *bytes, size_t len,
+                      const struct cloud *cloud, size_t numbers_len, size_t kinds_len)
 {
-    struct told none = read_in(run, reader, bytes, len, 0, 0);
+    const size_t canary = (size_t)run->canary << 32 | 0x5a5a5a5a;
+    size_t out[5] = {canary, canary, canary, canary, canary};
+    bool room = cloud->points <= numbers_len / 3 && cloud->points <= kinds_len;
+    uint8_t number = cloud->number == LIDAR_READ && !room ? LIDAR_NO_ROOM : cloud->number;
+    size_t written = number == LIDAR_READ ? cloud->points : 0;
 
-    if (none.number != LIDAR_READ && none.number != LIDAR_NO_ROOM) {
-        struct told again = read_in(run, reader, bytes, len, 7, 3);
-        HOLD(again.number == none.number);
-        return again;
-    }
-    size_t points = none.points;
-    HOLD((none.number == LIDAR_NO_ROOM) == (points > 0));
+    lend(&numbers, 4 * numbers_len, run->heap, run->sides & 2, run->canary);
+    lend(&kinds, kinds_len, run->heap, run->sides & 4, run->canary);
+    HOLD(call(run, reader, bytes, len, numbers_len, kinds_len, &out[1], &out[3]) == number);
+    HOLD(out[1] == (number == LIDAR_NO_ROOM ? cloud->points : written));
+    HOLD(out[3] == (number == LIDAR_READ ? cloud->frames : 0));
+    HOLD(out[0] == canary && out[2] == canary && out[4] == canary);
+    HOLD(same_numbers(reader, cloud->bits, written));
+    HOLD(memcmp(kinds.bytes, cloud->kinds, written) == 0);
+    lent_kept(&numbers, 12 * written);
+    lent_kept(&kinds, written);
+}
+
+/* A reader without room, with one number or one kind too few, and with enough. Of more points than
+   MOST_POINTS, the count alone is held. */
+static void hold_reader(const struct run *run, enum reader reader, const uint8_t *bytes, size_t len,
+                        const struct cloud *cloud)
+{
+    size_t points = cloud->points;
+
+    hold_call(run, reader, bytes, len, cloud, 0, 0);
     if (points > MOST_POINTS) {
-        struct told told = read_in(run, reader, bytes, len, 3 * MOST_POINTS, MOST_POINTS);
-        HOLD(told.number == LIDAR_NO_ROOM && told.points == points);
-        return told;
+        hold_call(run, reader, bytes, len, cloud, 3 * MOST_POINTS, MOST_POINTS);
+        return;
     }
     if (points > 0) {
-        struct told told = read_in(run, reader, bytes, len, 3 * points - 1, points);
-        HOLD(told.number == LIDAR_NO_ROOM && told.points == points);
-        told = read_in(run, reader, bytes, len, 3 * points, points - 1);
-        HOLD(told.number == LIDAR_NO_ROOM && told.points == points);
+        hold_call(run, reader, bytes, len, cloud, 3 * points - 1, points);
+        hold_call(run, reader, bytes, len, cloud, 3 * points, points - 1);
     }
-    struct told told = read_in(run, reader, bytes, len, 3 * points + (run->asked.beyond & 15),
-                               points + (run->asked.beyond >> 4));
-    HOLD(told.number == LIDAR_READ && told.points == points);
-    sum_points(run, reader, points);
-    return told;
+    hold_call(run, reader, bytes, len, cloud, 3 * points + (run->beyond & 15), points + (run->beyond >> 4));
 }
 
-/* The same on the file, and a copy of what was told. */
-static void read_file(struct run *run, enum reader reader, struct cloud *cloud)
+static void hold_file(const struct run *run, enum reader reader, const struct cloud *cloud)
 {
-    cloud->told = hold_reader(run, reader, run->data, run->len);
-    if (cloud->told.number == LIDAR_READ) {
-        memcpy(cloud->bits, numbers.bytes, 12 * cloud->told.points);
-        memcpy(cloud->kinds, kinds.bytes, cloud->told.points);
-    }
-    uint8_t before = file_number(run, reader);
-    if (before != LIDAR_READ)
-        HOLD(cloud->told.number == before);
-    else
-        HOLD(cloud->told.number == LIDAR_READ || cloud->told.number == LIDAR_NO_ROOM ||
-             (reader >= VELODYNE && cloud->told.number == LIDAR_NO_PAYLOAD));
-}
-
-static void hold_same_told(const struct cloud *a, const struct cloud *b)
-{
-    HOLD(a->told.number == b->told.number && a->told.points == b->told.points &&
-         a->told.frames == b->told.frames);
-}
-
-/* By value and by pattern: the same but for a NaN, which is one in both. */
-static void hold_forms(struct run *run, enum reader by_value, enum reader by_pattern)
-{
-    read_file(run, by_value, &first);
-    read_file(run, by_pattern, &second);
-    hold_same_told(&first, &second);
-    if (first.told.number != LIDAR_READ)
-        return;
-    for (size_t i = 0; i < 3 * first.told.points; i++)
-        HOLD(is_nan(second.bits[i]) ? is_nan(first.bits[i]) : first.bits[i] == second.bits[i]);
-    HOLD(memcmp(first.kinds, second.kinds, first.told.points) == 0);
-}
-
-static void hold_kitti(struct run *run)
-{
-    hold_forms(run, KITTI, KITTI_BITS);
-    if (second.told.number != LIDAR_READ)
-        return;
-    HOLD(second.told.points == run->len / 16);
-    for (size_t i = 0; i < second.told.points; i++) {
-        HOLD(memcmp(second.bits + 3 * i, run->data + 16 * i, 12) == 0);
-        HOLD(second.kinds[i] == LIDAR_CARTESIAN);
-    }
+    hold_reader(run, reader, run->data, run->len, cloud);
 }
 
 /* ---- placing */
 
-/* Places a point by whole micrometres, and holds number and distance. */
-static void hold_placed(struct run *run, uint8_t number, float metres, float before, int64_t micrometres)
+/* A reading by itself. */
+static void hold_placed(const struct run *run, uint8_t stored, int64_t x)
 {
-    uint32_t pulse_length = run->asked.pulse_length;
-    uint8_t expected = LIDAR_READ;
-    int32_t pulses = run->library->pulses(run->asked.count, run->asked.datum);
+    const float before = (float)run->canary;
+    float metres = before, distance = before;
+    const struct belt *belt = &run->belt;
+    struct reading reading = {stored, {x, 0, 0}};
+    uint8_t number = decode_placing(&reading, belt, &distance);
 
-    HOLD((uint32_t)pulses == run->asked.count - run->asked.datum);
-    if (pulse_length < 1 || pulse_length > 1000)
-        expected = LIDAR_BAD_PULSE_LENGTH;
-    else if (llabs(micrometres += (int64_t)pulses * pulse_length) > 16000000)
-        expected = LIDAR_OUTSIDE_WINDOW;
-    HOLD(number == expected);
-    HOLD(bits_of(metres) == bits_of(expected == LIDAR_READ ? (float)micrometres / 1000000.0f : before));
+    if (stored == LIDAR_MILLIMETRES)
+        HOLD(run->library->place_millimetres((int32_t)x, belt->count, belt->datum, belt->pulse_length,
+                                             &metres) == number);
+    else
+        HOLD(run->library->place_ten_millimetres((int16_t)x, belt->count, belt->datum, belt->pulse_length,
+                                                 &metres) == number);
+    HOLD(bits_of(metres) == bits_of(distance));
 }
 
-static void hold_readings(struct run *run)
+/* Where the window ends, wherever the belt has brought it. */
+static void hold_edge(const struct run *run, int64_t micrometres)
 {
-    float before = (float)run->asked.canary, metres = before;
-    int32_t x = (int32_t)(uint32_t)run->asked.rank;
-    uint8_t number = run->library->place_millimetres(x, run->asked.count, run->asked.datum,
-                                                     run->asked.pulse_length, &metres);
-    hold_placed(run, number, metres, before, (int64_t)x * 1000);
-    metres = before;
-    int16_t tens = (int16_t)(uint16_t)run->asked.rank;
-    number = run->library->place_ten_millimetres(tens, run->asked.count, run->asked.datum,
-                                                 run->asked.pulse_length, &metres);
-    hold_placed(run, number, metres, before, (int64_t)tens * 10000);
+    int64_t edge = (micrometres - (int64_t)pulses_of(&run->belt) * run->belt.pulse_length) / 1000;
+
+    for (int64_t x = edge - 1; x <= edge + 1; x++)
+        if (x == (int32_t)x)
+            hold_placed(run, LIDAR_MILLIMETRES, x);
+    for (int64_t x = edge / 10 - 1; x <= edge / 10 + 1; x++)
+        if (x == (int16_t)x)
+            hold_placed(run, LIDAR_TEN_MILLIMETRES, x);
 }
 
-/* The stored reading of a rank, and its placing. cloud is what the file's reader told. */
-static void hold_rank(struct run *run, bool lvx2, size_t rank, const struct cloud *cloud)
+static void hold_placing(const struct run *run)
 {
-    const uint8_t canary = (uint8_t)run->asked.canary;
+    HOLD(run->library->pulses(run->belt.count, run->belt.datum) == pulses_of(&run->belt));
+    hold_placed(run, LIDAR_MILLIMETRES, (int32_t)run->rank);
+    hold_placed(run, LIDAR_TEN_MILLIMETRES, (int16_t)run->rank);
+    hold_edge(run, 16000000);
+    hold_edge(run, -16000000);
+}
+
+/* The stored reading of a rank, and its placing. */
+static void hold_rank(const struct run *run, bool lvx2, uint64_t rank)
+{
+    const uint8_t canary = (uint8_t)run->canary;
     uint8_t stored[3] = {canary, canary, canary};
-    int64_t three[5] = {7, 7, 7, 7, 7};
-    float before = (float)run->asked.canary, metres = before;
-    const struct told *told = &cloud->told;
-    uint8_t number = run->library->stored_reading(run->data, run->len, lvx2, rank, &stored[1], &three[1],
-                                                  &three[2], &three[3]);
-    uint8_t placed =
-        run->library->place_in_file(run->data, run->len, lvx2, rank, run->asked.count, run->asked.datum,
-                                    run->asked.pulse_length, &metres);
-    const int64_t x = three[1], y = three[2], z = three[3];
-    uint32_t bits[3];
-    uint8_t kind = LIDAR_CARTESIAN;
+    int64_t out[5] = {7, 7, 7, 7, 7};
+    const float before = (float)run->canary;
+    float metres = before, distance = before;
+    struct reading reading;
+    uint8_t number = decode_stored(run->data, run->len, lvx2, rank, &reading);
 
-    HOLD(stored[0] == canary && stored[2] == canary && three[0] == 7 && three[4] == 7);
-    sum(run, number);
-    sum(run, stored[1]);
-    sum(run, (uint64_t)x);
-    sum(run, (uint64_t)y);
-    sum(run, (uint64_t)z);
-    sum(run, placed);
-    sum(run, bits_of(metres));
+    HOLD(run->library->stored_reading(run->data, run->len, lvx2, rank, &stored[1], &out[1], &out[2],
+                                      &out[3]) == number);
+    HOLD(stored[1] == reading.stored && memcmp(&out[1], reading.three, sizeof reading.three) == 0);
+    HOLD(stored[0] == canary && stored[2] == canary && out[0] == 7 && out[4] == 7);
 
-    bool refused = told->number != LIDAR_READ && told->number != LIDAR_NO_ROOM;
-    if (refused || rank >= told->points) {
-        HOLD(number == (refused ? told->number : LIDAR_NOT_PLACEABLE));
-        HOLD(stored[1] == LIDAR_NO_READING && x == 0 && y == 0 && z == 0);
-        HOLD(placed == number && bits_of(metres) == bits_of(before));
-        return;
-    }
-    HOLD(number == LIDAR_READ);
-    switch (stored[1]) {
-    case LIDAR_MILLIMETRES:
-        HOLD(x == (int32_t)x && y == (int32_t)y && z == (int32_t)z);
-        bits[0] = bits_of((float)(int32_t)x / 1000.0f);
-        bits[1] = bits_of((float)(int32_t)y / 1000.0f);
-        bits[2] = bits_of((float)(int32_t)z / 1000.0f);
-        hold_placed(run, placed, metres, before, x * 1000);
-        break;
-    case LIDAR_TEN_MILLIMETRES:
-        HOLD(lvx2 && x == (int16_t)x && y == (int16_t)y && z == (int16_t)z);
-        bits[0] = bits_of((float)x * 0.01f);
-        bits[1] = bits_of((float)y * 0.01f);
-        bits[2] = bits_of((float)z * 0.01f);
-        hold_placed(run, placed, metres, before, x * 10000);
-        break;
-    case LIDAR_SPHERICAL:
-        HOLD(x == (uint32_t)x && y == (uint16_t)y && z == (uint16_t)z);
-        bits[0] = bits_of((float)(uint32_t)x / 1000.0f);
-        bits[1] = bits_of((float)y * 0.01f);
-        bits[2] = bits_of((float)z * 0.01f);
-        kind = LIDAR_POLAR;
-        HOLD(placed == LIDAR_NOT_PLACEABLE && bits_of(metres) == bits_of(before));
-        break;
-    default:
-        HOLD(stored[1] == LIDAR_FLOATS && !lvx2);
-        HOLD(x == (uint32_t)x && y == (uint32_t)y && z == (uint32_t)z);
-        bits[0] = (uint32_t)x;
-        bits[1] = (uint32_t)y;
-        bits[2] = (uint32_t)z;
-        HOLD(placed == LIDAR_NOT_PLACEABLE && bits_of(metres) == bits_of(before));
-    }
-    if (told->number == LIDAR_READ)
-        HOLD(memcmp(bits, cloud->bits + 3 * rank, 12) == 0 && kind == cloud->kinds[rank]);
+    if (number == LIDAR_READ)
+        number = decode_placing(&reading, &run->belt, &distance);
+    HOLD(run->library->place_in_file(run->data, run->len, lvx2, rank, run->belt.count, run->belt.datum,
+                                     run->belt.pulse_length, &metres) == number);
+    HOLD(bits_of(metres) == bits_of(distance));
 }
 
-static void hold_livox(struct run *run, bool lvx2)
+static void hold_livox(const struct run *run, bool lvx2)
 {
-    hold_forms(run, lvx2 ? LVX2 : LVX, lvx2 ? LVX2_BITS : LVX_BITS);
-    for (size_t rank = 0; rank < RANKS && rank < second.told.points; rank++)
-        hold_rank(run, lvx2, rank, &second);
-    if (second.told.points > 0) {
-        hold_rank(run, lvx2, second.told.points - 1, &second);
-        hold_rank(run, lvx2, (size_t)(run->asked.rank % second.told.points), &second);
+    const struct cloud *cloud = &meant.livox[lvx2];
+
+    hold_file(run, lvx2 ? LVX2 : LVX, cloud);
+    hold_file(run, lvx2 ? LVX2_BITS : LVX_BITS, cloud);
+    for (size_t rank = 0; rank < RANKS && rank < cloud->points; rank++)
+        hold_rank(run, lvx2, rank);
+    if (cloud->points > 0) {
+        hold_rank(run, lvx2, cloud->points - 1);
+        hold_rank(run, lvx2, run->rank % cloud->points);
     }
-    hold_rank(run, lvx2, second.told.points, &second);
-    hold_rank(run, lvx2, (size_t)run->asked.rank, &second);
+    hold_rank(run, lvx2, cloud->points);
+    hold_rank(run, lvx2, run->rank);
+    hold_rank(run, lvx2, SIZE_MAX);
 }
 
 /* ---- captures */
 
-struct payload {
-    size_t start, len;
-};
-
-/* One step, from a place. Holds that what it tells lies in the data. */
-static bool step(struct run *run, uint16_t port, size_t *at, struct payload *payload)
+/* One step, from a place. */
+static bool hold_step(const struct run *run, uint16_t port, size_t *at, struct payload *payload)
 {
-    const size_t canary = (size_t)run->asked.canary << 32 | 0xa5a5a5a5;
-    size_t out[7] = {canary, *at, canary, canary, canary, canary, canary};
-    bool found = run->library->next_payload_as(run->data, run->len, run->savefile, port, &out[1], &out[3],
-                                               &out[5]);
+    const size_t canary = (size_t)run->canary << 32 | 0xa5a5a5a5, from = *at;
+    bool found = decode_payload(run->data, run->len, run->savefile, port, at, payload);
+    size_t out[7] = {canary, from, canary, canary, canary, canary, canary};
 
+    HOLD(run->library->next_payload_as(run->data, run->len, run->savefile, port, &out[1], &out[3],
+                                       &out[5]) == found);
+    HOLD(out[1] == *at && out[3] == payload->start && out[5] == payload->len);
     HOLD(out[0] == canary && out[2] == canary && out[4] == canary && out[6] == canary);
-    payload->start = out[3];
-    payload->len = out[5];
-    sum(run, found);
-    sum(run, out[1]);
-    sum(run, payload->start);
-    sum(run, payload->len);
-    if (found) {
-        HOLD(capture_number(run->data, run->len) == LIDAR_READ);
-        HOLD(payload->len >= 1 && payload->len <= run->len && payload->start <= run->len - payload->len);
-        /* The walk stands after the record, which ends with its payload. */
-        HOLD(out[1] == payload->start + payload->len && out[1] > *at);
-    } else {
-        HOLD(payload->start == 0 && payload->len == 0 && out[1] == *at);
-    }
-    if (!run->savefile) {
-        size_t usual[3] = {*at, canary, canary};
+    if (run->savefile == usual_is_savefile) {
+        size_t usual[3] = {from, canary, canary};
         HOLD(run->library->next_payload(run->data, run->len, port, &usual[0], &usual[1], &usual[2]) ==
              found);
-        HOLD(usual[0] == out[1] && usual[1] == payload->start && usual[2] == payload->len);
+        HOLD(usual[0] == *at && usual[1] == payload->start && usual[2] == payload->len);
     }
-    *at = out[1];
     return found;
 }
 
-/* The payload of a rank is what the steps met there. */
-static void hold_payload(struct run *run, uint16_t port, size_t rank, struct payload met)
+/* The payload of a rank, which is empty if there is none. */
+static void hold_payload(const struct run *run, uint16_t port, size_t rank, const struct payload *payload)
 {
+    uint8_t number = capture_number(run->data, run->len);
     size_t out[4] = {3, 3, 3, 3};
-    uint8_t number = run->library->payload_place_as(run->data, run->len, run->savefile, port, rank,
-                                                    &out[0], &out[2]);
 
-    HOLD(number == capture_number(run->data, run->len));
-    HOLD(out[0] == met.start && out[2] == met.len && out[1] == 3 && out[3] == 3);
-    if (!run->savefile) {
+    HOLD(run->library->payload_place_as(run->data, run->len, run->savefile, port, rank, &out[0],
+                                        &out[2]) == number);
+    HOLD(out[0] == payload->start && out[2] == payload->len && out[1] == 3 && out[3] == 3);
+    if (run->savefile == usual_is_savefile) {
         HOLD(run->library->payload_place(run->data, run->len, port, rank, &out[1], &out[3]) == number);
-        HOLD(out[1] == met.start && out[3] == met.len);
+        HOLD(out[1] == payload->start && out[3] == payload->len);
     }
 }
 
-/* How many payloads there are, by steps. Every rank that is tried agrees. */
-static size_t hold_payloads(struct run *run, uint16_t port)
+/* A payload as a packet, in a buffer of its own, so that nothing beyond it can be read. */
+static void hold_packet(const struct run *run, const uint8_t *bytes, size_t len)
+{
+    static struct cloud cloud;
+
+    decode_packet(bytes, len, &cloud);
+    memcpy(lend(&packet, len, run->heap, run->sides & 8, run->canary), bytes, len);
+    hold_reader(run, PACKET, packet.bytes, len, &cloud);
+    HOLD(memcmp(packet.bytes, bytes, len) == 0);
+}
+
+/* All payloads by steps, and some by their ranks. */
+static void hold_payloads(const struct run *run, uint16_t port)
 {
     const struct payload none = {0, 0};
-    struct payload payload;
+    struct payload payload, last = none;
     size_t at = 0, met = 0;
 
-    while (step(run, port, &at, &payload)) {
-        if (met < RANKS || met == run->asked.rank)
-            hold_payload(run, port, met, payload);
-        HOLD(++met <= run->len / 16);
+    for (; hold_step(run, port, &at, &payload); met++) {
+        if (met < RANKS || met == run->rank)
+            hold_payload(run, port, met, &payload);
+        if (port == VELODYNE_PORT)
+            hold_packet(run, run->data + payload.start, payload.len);
+        last = payload;
     }
-    hold_payload(run, port, met, none);
-    if (run->asked.rank >= met)
-        hold_payload(run, port, (size_t)run->asked.rank, none);
-    return met;
+    if (met > 0)
+        hold_payload(run, port, met - 1, &last);
+    hold_payload(run, port, met, &none);
+    if (run->rank >= met)
+        hold_payload(run, port, run->rank, &none);
+    hold_payload(run, port, SIZE_MAX, &none);
 }
 
-/* The points that a Velodyne packet has. */
-static size_t packet_points(const uint8_t *bytes, size_t len)
+static void hold_velodyne(const struct run *run)
 {
-    size_t points = 0;
-
-    if (len < 1206)
-        return 0;
-    for (const uint8_t *block = bytes; block < bytes + 1200; block += 100)
-        if (u16_at(block) == 0xFFEE)
-            for (size_t channel = 0; channel < 32; channel++)
-                points += u16_at(block + 4 + 3 * channel) != 0;
-    return points;
+    hold_file(run, VELODYNE_AS, &meant.velodyne[run->savefile]);
+    if (run->savefile == usual_is_savefile)
+        hold_file(run, VELODYNE, &meant.velodyne[run->savefile]);
 }
 
-/* A packet in a buffer of its own, so that nothing beyond it can be read. */
-static struct told hold_packet(struct run *run, const uint8_t *bytes, size_t len)
+static void hold_ouster(const struct run *run)
 {
-    memcpy(lend(&packet, len, run->heap, run->asked.sides & 8, run->asked.canary), bytes, len);
-    struct told told = hold_reader(run, PACKET, packet.bytes, len);
+    size_t len = 4 * run->ouster.altitudes_len;
 
-    HOLD(told.number == LIDAR_READ && told.points == packet_points(bytes, len));
-    HOLD(memcmp(packet.bytes, bytes, len) == 0);
-    return told;
+    memcpy(lend(&altitudes, len, run->heap, run->sides & 16, run->canary), run->ouster.altitudes, len);
+    hold_file(run, OUSTER_AS, &meant.ouster[run->savefile]);
+    if (run->savefile == usual_is_savefile)
+        hold_file(run, OUSTER, &meant.ouster[run->savefile]);
+    HOLD(memcmp(altitudes.bytes, run->ouster.altitudes, len) == 0);
+    lent_kept(&altitudes, len);
 }
 
-/* The capture's points are those of its payloads, one after another. */
-static void hold_velodyne(struct run *run)
+/* Steps from places that no call gave. */
+static void hold_places(const struct run *run)
 {
-    size_t payloads = hold_payloads(run, VELODYNE_PORT), at = 0, points = 0;
-    struct payload payload;
+    const size_t places[4] = {23, run->rank, run->len - run->rank, SIZE_MAX - run->rank};
 
-    read_file(run, VELODYNE_AS, &first);
-    if (capture_number(run->data, run->len) == LIDAR_READ)
-        HOLD((first.told.number == LIDAR_NO_PAYLOAD) == (payloads == 0));
-    if (!run->savefile) {
-        read_file(run, VELODYNE, &second);
-        hold_same_told(&first, &second);
-        HOLD(first.told.number != LIDAR_READ ||
-             (memcmp(first.bits, second.bits, 12 * first.told.points) == 0 &&
-              memcmp(first.kinds, second.kinds, first.told.points) == 0));
+    for (size_t i = 0; i < 4; i++) {
+        struct payload payload;
+        size_t at = places[i];
+        hold_step(run, run->ouster.port, &at, &payload);
     }
-    if (first.told.number != LIDAR_READ)
-        return;
-    while (step(run, VELODYNE_PORT, &at, &payload)) {
-        struct told told = hold_packet(run, run->data + payload.start, payload.len);
-        HOLD(points + told.points <= first.told.points);
-        HOLD(memcmp(first.bits + 3 * points, numbers.bytes, 12 * told.points) == 0);
-        HOLD(memcmp(first.kinds + points, kinds.bytes, told.points) == 0);
-        points += told.points;
-    }
-    HOLD(points == first.told.points);
-    for (size_t i = 0; i < points; i++)
-        HOLD(first.kinds[i] == LIDAR_POLAR && !is_nan(first.bits[3 * i]) && first.bits[3 * i] != 0);
-}
-
-/* Range and elevation of each Ouster point, channel by channel. */
-static void hold_ouster_points(struct run *run)
-{
-    struct payload payload;
-    size_t at = 0, points = 0, column_len = 16 + 12 * run->beams + 4;
-
-    while (step(run, run->asked.port, &at, &payload)) {
-        if (payload.len < run->columns * column_len)
-            continue;
-        for (size_t column = 0; column < run->columns; column++) {
-            const uint8_t *bytes = run->data + payload.start + column * column_len;
-            for (size_t beam = 0; beam < run->beams; beam++) {
-                uint32_t range = u32_at(bytes + 16 + 12 * beam) & 0xfffff;
-                uint32_t altitude = u32_at(altitudes.bytes + 4 * beam);
-                if (range == 0)
-                    continue;
-                HOLD(points < first.told.points && first.kinds[points] == LIDAR_POLAR);
-                HOLD(first.bits[3 * points] == bits_of((float)range / 1000.0f));
-                HOLD(is_nan(altitude) ? is_nan(first.bits[3 * points + 1])
-                                      : first.bits[3 * points + 1] == altitude);
-                points++;
-            }
-        }
-    }
-    HOLD(points == first.told.points);
-}
-
-static void hold_ouster(struct run *run)
-{
-    size_t payloads = hold_payloads(run, run->asked.port);
-
-    lend(&altitudes, 4 * run->altitudes_len, run->heap, run->asked.sides & 16, run->asked.canary);
-    read_file(run, OUSTER_AS, &first);
-    if (good_settings(run) && capture_number(run->data, run->len) == LIDAR_READ)
-        HOLD((first.told.number == LIDAR_NO_PAYLOAD) == (payloads == 0));
-    if (!run->savefile) {
-        read_file(run, OUSTER, &second);
-        hold_same_told(&first, &second);
-    }
-    if (first.told.number == LIDAR_READ)
-        hold_ouster_points(run);
-    lent_kept(&altitudes, 0);
 }
 
 static void hold_captures(struct run *run)
 {
     for (int savefile = 0; savefile < 2; savefile++) {
-        struct payload payload;
-        size_t at = (size_t)run->asked.rank;
-
         run->savefile = savefile;
         hold_velodyne(run);
         hold_ouster(run);
+        hold_payloads(run, VELODYNE_PORT);
+        hold_payloads(run, run->ouster.port);
         hold_payloads(run, 0);
-        /* A place that no call gave. */
-        step(run, run->asked.port, &at, &payload);
+        hold_places(run);
     }
 }
 
 /* ---- the input */
 
-static void hold_all(struct run *run, const uint8_t *input)
+/* Once for all builds. */
+static void decode(const struct run *run)
 {
-    static const uint8_t beams[8] = {16, 32, 64, 128, 0, 17, 48, 129};
+    decode_kitti(run->data, run->len, &meant.kitti);
+    decode_packet(run->data, run->len, &meant.packet);
+    for (int second = 0; second < 2; second++) {
+        decode_livox(run->data, run->len, second, &meant.livox[second]);
+        decode_velodyne(run->data, run->len, second, &meant.velodyne[second]);
+        decode_ouster(run->data, run->len, second, &run->ouster, &meant.ouster[second]);
+    }
+}
 
-    run->columns = run->asked.columns;
-    run->beams = beams[run->asked.beams % 8];
-    run->altitudes_len = run->beams + run->asked.altitudes % 3;
-    if (run->altitudes_len > 0)
-        run->altitudes_len--;
-    memcpy(lend(&data, run->len, run->heap, run->asked.sides & 1, run->asked.canary), input, run->len);
-    run->data = data.bytes;
-    lent_writable(&data, false);
-    hold_kitti(run);
+/* Every call on the data, which means what was decoded. */
+static void hold_data(struct run *run)
+{
+    hold_file(run, KITTI, &meant.kitti);
+    hold_file(run, KITTI_BITS, &meant.kitti);
     hold_livox(run, false);
     hold_livox(run, true);
     hold_captures(run);
-    hold_packet(run, run->data, run->len);
-    hold_readings(run);
+    hold_file(run, PACKET, &meant.packet);
+}
+
+static void hold_input(struct run *run, const uint8_t *input)
+{
+    memcpy(lend(&data, run->len, run->heap, run->sides & 1, run->canary), input, run->len);
+    run->data = data.bytes;
+    lent_writable(&data, false);
+    hold_data(run);
+    hold_placing(run);
     lent_writable(&data, true);
     HOLD(memcmp(data.bytes, input, run->len) == 0);
     lent_kept(&data, run->len);
 }
 
-int LLVMFuzzerInitialize(int *argc, char ***argv);
-int LLVMFuzzerTestOneInput(const uint8_t *input, size_t size);
-
-/* The settings and the models, which no input changes. */
-static void hold_fixed(const struct library *library, bool at_start)
+/* Elevations of every sort, each beam another, with NaNs among them. */
+static const uint32_t *some_altitudes(uint32_t canary)
 {
-    static const size_t beams[2] = {64, 128};
+    static uint32_t some[MOST_BEAMS + ALTITUDES_BEYOND];
 
-    for (int i = 0; i < 2; i++) {
-        size_t columns = 0, pixels = 0;
-        uint16_t port = 0;
+    for (uint32_t beam = 0; beam < MOST_BEAMS + ALTITUDES_BEYOND; beam++)
+        some[beam] = ((beam + 1) * 0x9E3779B9u ^ canary) | (beam % 8 == 7 ? 0x7fc00000u : 0);
+    return some;
+}
 
-        lend(&altitudes, 4 * beams[i], false, at_start, 1);
-        (i ? library->os_128 : library->os1_64)(&columns, &pixels, &port,
-                                                 (float *)(void *)altitudes.bytes);
-        HOLD(columns == 16 && pixels == beams[i] && port == 7502);
-        lent_kept(&altitudes, 4 * beams[i]);
+/* Good settings and bad ones, with as many elevations as beams, one fewer or one more. */
+static struct ouster asked_ouster(const uint8_t *asked, uint32_t canary)
+{
+    const size_t far = (size_t)1 << 32;
+    size_t beams = BEAMS_OF[asked[BEAMS] % 8], len = beams + asked[ALTITUDES] % 3;
+
+    return (struct ouster){
+        .columns = asked[COLUMNS] + (asked[FAR] & 1 ? far : 0),
+        .beams = beams + (asked[FAR] & 2 ? far : 0),
+        .port = u16_at(asked + PORT),
+        .altitudes = some_altitudes(canary),
+        .altitudes_len = len > 0 ? len - 1 : 0,
+    };
+}
+
+static struct run asked_run(const uint8_t *asked)
+{
+    uint32_t canary = u32_at(asked + CANARY);
+
+    return (struct run){
+        .sides = asked[SIDES],
+        .beyond = asked[BEYOND],
+        .canary = canary,
+        .rank = u64_at(asked + RANK),
+        .belt = {u32_at(asked + COUNT), u32_at(asked + DATUM), u32_at(asked + PULSE_LENGTH)},
+        .ouster = asked_ouster(asked, canary),
+    };
+}
+
+int LLVMFuzzerTestOneInput(const uint8_t *input, size_t size)
+{
+    uint8_t asked[SETTINGS] = {0};
+
+    if (size >= SETTINGS) {
+        size -= SETTINGS;
+        memcpy(asked, input + size, SETTINGS);
     }
-    for (unsigned byte = 0; byte < 256; byte++) {
-        uint8_t model = library->detect_velodyne_model((uint8_t)byte);
-        HOLD(byte == 0x22   ? model == LIDAR_VLP16
-             : byte == 0x28 ? model == LIDAR_HDL32E
-                            : model == LIDAR_VLP32C || model == LIDAR_UNKNOWN_MODEL);
+    if (size > LONGEST)
+        return 0;
+    struct run run = asked_run(asked);
+    run.data = input;
+    run.len = size;
+    decode(&run);
+    for (size_t i = 0; i < BUILDS; i++) {
+        run.library = &builds[i].library;
+        run.heap = builds[i].heap;
+        hold_input(&run, input);
     }
+    return 0;
+}
+
+/* ---- what no input changes */
+
+static void hold_models(const struct library *library)
+{
+    for (unsigned byte = 0; byte < 256; byte++)
+        HOLD(library->detect_velodyne_model((uint8_t)byte) == model_of((uint8_t)byte));
+}
+
+/* os1_64 and os_128. */
+static void hold_made_ready(const struct library *library, bool at_start, size_t beams)
+{
+    const struct ouster settings = ouster_made_ready(beams);
+    size_t columns[3] = {3, 3, 3}, pixels[3] = {3, 3, 3};
+    uint16_t port[3] = {3, 3, 3};
+
+    lend(&altitudes, 4 * beams, false, at_start, 1);
+    (beams == 64 ? library->os1_64 : library->os_128)(&columns[1], &pixels[1], &port[1],
+                                                      (float *)(void *)altitudes.bytes);
+    HOLD(columns[1] == settings.columns && columns[0] == 3 && columns[2] == 3);
+    HOLD(pixels[1] == settings.beams && pixels[0] == 3 && pixels[2] == 3);
+    HOLD(port[1] == settings.port && port[0] == 3 && port[2] == 3);
+    HOLD(memcmp(altitudes.bytes, settings.altitudes, 4 * beams) == 0);
+    lent_kept(&altitudes, 4 * beams);
+}
+
+/* The longest data and longer, all zeros. Its pages are there once they are read, and few are. */
+static void hold_longest(const struct library *library)
+{
+    const size_t longest = 2147483647, lens[3] = {longest, longest + 1, SIZE_MAX};
+    const uint8_t good[SETTINGS] = {[COLUMNS] = 1, [ALTITUDES] = 1}, bad[SETTINGS] = {0};
+    void *zeros = mmap(NULL, longest + 1, PROT_READ, MAP_PRIVATE | MAP_ANONYMOUS | MAP_NORESERVE, -1, 0);
+
+    HOLD(zeros != MAP_FAILED);
+    for (size_t i = 0; i < 6; i++) {
+        struct run run = asked_run(i % 2 ? bad : good);
+        run.library = library;
+        run.data = zeros;
+        run.len = lens[i / 2];
+        decode(&run);
+        hold_data(&run);
+    }
+    HOLD(munmap(zeros, longest + 1) == 0);
 }
 
 int LLVMFuzzerInitialize(int *argc, char ***argv)
@@ -682,46 +512,15 @@ int LLVMFuzzerInitialize(int *argc, char ***argv)
     lent_open(&packet, LONGEST);
     lent_open(&numbers, 12 * MOST_POINTS + 64);
     lent_open(&kinds, MOST_POINTS + 16);
-    lent_open(&altitudes, 4 * MOST_BEAMS);
-    for (int at_start = 0; at_start < 2; at_start++) {
-        hold_fixed(&guided, at_start);
-        hold_fixed(&shipped, at_start);
+    lent_open(&altitudes, 4 * (MOST_BEAMS + ALTITUDES_BEYOND));
+    for (size_t i = 0; i < BUILDS; i++) {
+        const struct library *library = &builds[i].library;
+        hold_models(library);
+        for (int at_start = 0; at_start < 2; at_start++) {
+            hold_made_ready(library, at_start, 64);
+            hold_made_ready(library, at_start, 128);
+        }
+        hold_longest(library);
     }
-    return 0;
-}
-
-int LLVMFuzzerTestOneInput(const uint8_t *input, size_t size)
-{
-    uint8_t last[SETTINGS] = {0};
-    struct run run = {.library = &guided, .heap = true};
-
-    if (size >= SETTINGS) {
-        size -= SETTINGS;
-        memcpy(last, input + size, SETTINGS);
-    }
-    if (size > LONGEST)
-        return 0;
-    run.len = size;
-    run.asked = (struct asked){
-        .sides = last[0],
-        .beyond = last[1],
-        .port = u16_at(last + 2),
-        .columns = last[4],
-        .beams = last[5],
-        .altitudes = last[6],
-        .canary = u32_at(last + 8),
-        .count = u32_at(last + 12),
-        .datum = u32_at(last + 16),
-        .pulse_length = u32_at(last + 20),
-        .rank = u64_at(last + 24),
-    };
-    hold_all(&run, input);
-
-    uint64_t of_guided = run.sum;
-    run.library = &shipped;
-    run.heap = false;
-    run.sum = 0;
-    hold_all(&run, input);
-    HOLD(run.sum == of_guided);
     return 0;
 }

@@ -1,16 +1,25 @@
-/* Writes the inputs that the fuzzer starts from: files with what is asked of them after their last byte,
-   as harness.c reads it. From files that are named, from the lists of cases, and made here.
+/* Writes the inputs that the fuzzer starts from: files with what is asked of them after their last byte.
+   From files that are named, from the lists of cases, and made here.
 
      seeds DIRECTORY CASES FILE.. */
-#include <stdint.h>
+#include <stdbool.h>
 #include <stdio.h>
 #include <stdlib.h>
 #include <string.h>
 
-enum { SETTINGS = 32, LONGEST = 1 << 15 };
+#include "asked.h"
+#include "random.h"
+
+/* What is asked of a file. */
+struct question {
+    unsigned port, columns, beams, altitudes;
+    uint32_t count, datum, pulse_length;
+    uint64_t rank;
+};
 
 static const char *directory;
 static unsigned written;
+static uint64_t random_state = 1;
 
 static void put(uint8_t *at, size_t len, uint64_t number)
 {
@@ -18,24 +27,46 @@ static void put(uint8_t *at, size_t len, uint64_t number)
         at[i] = (uint8_t)(number >> 8 * i);
 }
 
-/* A file, asked for on a port, with columns and the place of the beams in the harness's list. */
-static void write_seed(const uint8_t *bytes, size_t len, unsigned port, unsigned columns, unsigned beams)
+static void put_random(uint8_t *at, size_t len)
+{
+    for (size_t i = 0; i < len; i++)
+        at[i] = (uint8_t)next(&random_state);
+}
+
+/* Ouster settings, with as many elevations as beams. The belt is that of 01's case. */
+static struct question ask(unsigned port, unsigned columns, unsigned beams)
+{
+    return (struct question){port, columns, beams, beams, 704, 4294967000u, 250, written % 3};
+}
+
+/* A number that is not in the list goes to its last, which is as bad. */
+static uint8_t place_of(unsigned beams)
+{
+    uint8_t place = 0;
+
+    while (place < sizeof BEAMS_OF - 1 && BEAMS_OF[place] != beams)
+        place++;
+    return place;
+}
+
+static void write_seed(const uint8_t *bytes, size_t len, struct question question)
 {
     uint8_t last[SETTINGS] = {0};
     char path[4096];
 
-    /* All sides and several rooms in turn. The settings are good: as many elevations as beams. */
-    last[0] = (uint8_t)(written % 32);
-    last[1] = (uint8_t)(written * 7);
-    put(last + 2, 2, port);
-    last[4] = (uint8_t)columns;
-    last[5] = (uint8_t)beams;
-    last[6] = 1;
-    put(last + 8, 4, 0x3fc12345u + written);
-    put(last + 12, 4, 704);
-    put(last + 16, 4, 4294967000u);
-    put(last + 20, 4, 250);
-    put(last + 24, 8, written % 3);
+    /* All sides and several rooms in turn. */
+    last[SIDES] = (uint8_t)(written % 32);
+    last[BEYOND] = (uint8_t)(written * 7);
+    put(last + PORT, 2, question.port);
+    last[COLUMNS] = (uint8_t)question.columns;
+    last[BEAMS] = place_of(question.beams);
+    last[ALTITUDES] = (uint8_t)(1 + (question.altitudes > question.beams) -
+                                (question.altitudes < question.beams));
+    put(last + CANARY, 4, 0x3fc12345u + written);
+    put(last + COUNT, 4, question.count);
+    put(last + DATUM, 4, question.datum);
+    put(last + PULSE_LENGTH, 4, question.pulse_length);
+    put(last + RANK, 8, question.rank);
     snprintf(path, sizeof path, "%s/%04u", directory, written++);
     FILE *file = fopen(path, "wb");
     if (!file || fwrite(bytes, 1, len, file) != len || fwrite(last, 1, SETTINGS, file) != SETTINGS ||
@@ -45,79 +76,137 @@ static void write_seed(const uint8_t *bytes, size_t len, unsigned port, unsigned
     }
 }
 
-static void from_file(const char *path)
+static FILE *open_or_stop(const char *path, const char *mode)
 {
-    static uint8_t bytes[LONGEST];
-    FILE *file = fopen(path, "rb");
+    FILE *file = fopen(path, mode);
 
     if (!file) {
         perror(path);
         exit(1);
     }
+    return file;
+}
+
+/* ---- from files */
+
+static void from_file(const char *path)
+{
+    static uint8_t bytes[LONGEST];
+    FILE *file = open_or_stop(path, "rb");
     size_t len = fread(bytes, 1, LONGEST, file);
+
     fclose(file);
-    write_seed(bytes, len, 0, 1, 0);
+    write_seed(bytes, len, ask(7502, 16, 64));
+    write_seed(bytes, len, ask(0, 1, 16));
+}
+
+/* ---- from the lists of cases */
+
+enum { MOST_NUMBERS = 8 };
+
+static bool is(const char *call, const char *name) { return strcmp(call, name) == 0; }
+
+static void ask_belt(struct question *question, const unsigned long long *numbers)
+{
+    question->count = (uint32_t)numbers[0];
+    question->datum = (uint32_t)numbers[1];
+    question->pulse_length = (uint32_t)numbers[2];
+}
+
+/* What a case asks, by its call and its numbers, of which the first is the length. */
+static struct question question_of(const char *call, const unsigned long long *numbers, const uint8_t *bytes)
+{
+    struct question question = ask(7502, 1, 16);
+
+    if (is(call, "os1-64"))
+        return ask(7502, 16, 64);
+    if (is(call, "os-128"))
+        return ask(7502, 16, 128);
+    if (is(call, "ouster")) {
+        question = ask((unsigned)numbers[5], (unsigned)numbers[3], (unsigned)numbers[4]);
+        question.altitudes = (unsigned)numbers[6];
+    } else if (is(call, "payload")) {
+        question.port = (unsigned)numbers[2];
+        question.rank = numbers[3];
+    } else if (is(call, "lvx-rank") || is(call, "lvx2-rank")) {
+        question.rank = numbers[1];
+    } else if (is(call, "place-lvx") || is(call, "place-lvx2")) {
+        question.rank = numbers[1];
+        ask_belt(&question, numbers + 2);
+    } else if (is(call, "millimetres") || is(call, "ten-millimetres")) {
+        memcpy(&question.rank, bytes, sizeof question.rank);
+        ask_belt(&question, numbers + 1);
+    }
+    return question;
+}
+
+/* Puts the bytes of a word @PLACE=HEX. */
+static void put_hex(uint8_t *bytes, const char *word)
+{
+    char *hex;
+    size_t at = strtoul(word + 1, &hex, 10);
+    unsigned byte;
+
+    for (hex++; at < LONGEST && sscanf(hex, "%2x", &byte) == 1; hex += 2)
+        bytes[at++] = (uint8_t)byte;
 }
 
 /* A line of a list: a name, a colon, the call, its numbers, and its bytes as @PLACE=HEX. */
 static void from_case(char *line)
 {
     static uint8_t bytes[LONGEST];
-    unsigned long numbers[8] = {0};
+    unsigned long long numbers[MOST_NUMBERS] = {0};
     size_t k = 0;
-    char *word = strchr(line, ':');
+    char *word = strchr(line, ':'), *call = word ? strtok(word + 1, " \n") : NULL;
 
-    if (!word || !strtok(word + 1, " \n"))
+    if (!call)
         return;
     memset(bytes, 0, sizeof bytes);
     while ((word = strtok(NULL, " \n"))) {
-        if (*word != '@') {
-            if (k < 8)
-                numbers[k++] = strtoul(word, NULL, 10);
-            continue;
-        }
-        char *hex;
-        size_t at = strtoul(word + 1, &hex, 10);
-        unsigned byte;
-        for (hex++; at < LONGEST && sscanf(hex, "%2x", &byte) == 1; hex += 2)
-            bytes[at++] = (uint8_t)byte;
+        if (*word == '@')
+            put_hex(bytes, word);
+        else if (k < MOST_NUMBERS)
+            numbers[k++] = strtoull(word, NULL, 10);
     }
     if (numbers[0] <= LONGEST)
-        write_seed(bytes, numbers[0], 7502, numbers[3] ? (unsigned)numbers[3] : 1, 0);
+        write_seed(bytes, numbers[0], question_of(call, numbers, bytes));
 }
 
 static void from_cases(const char *path)
 {
     static char line[1 << 18];
-    FILE *file = fopen(path, "r");
+    FILE *file = open_or_stop(path, "r");
 
-    if (!file) {
-        perror(path);
-        exit(1);
-    }
     while (fgets(line, sizeof line, file))
         from_case(line);
     fclose(file);
 }
 
-/* splitmix64 */
-static uint64_t next(uint64_t *random)
+/* ---- made here */
+
+static uint8_t file[LONGEST];
+
+/* A capture's header. Its records' lengths are big-endian or not; by the magic, each of the four ways
+   is taken by one reading alone. */
+static size_t capture(unsigned way)
 {
-    uint64_t z = *random += 0x9E3779B97F4A7C15u;
-    z = (z ^ z >> 30) * 0xBF58476D1CE4E5B9u;
-    z = (z ^ z >> 27) * 0x94D049BB133111EBu;
-    return z ^ z >> 31;
+    static const uint32_t magics[4] = {0xa1b2c3d4, 0xd4c3b2a1, 0xa1b23c4d, 0x4d3cb2a1};
+
+    memset(file, 0, 24);
+    put(file, 4, magics[way % 4]);
+    return 24;
 }
 
 /* A record with one datagram to a port. Gives back where its payload stands. */
-static uint8_t *datagram(uint8_t *capture, size_t *len, int tagged, unsigned port, size_t payload)
+static uint8_t *datagram(size_t *len, bool big_endian, bool tagged, unsigned port, size_t payload)
 {
     size_t ip = tagged ? 18 : 14, length = ip + 28 + payload;
-    uint8_t *record = capture + *len + 16;
+    uint8_t *record = file + *len + 16;
+    uint32_t stated = big_endian ? __builtin_bswap32((uint32_t)length) : (uint32_t)length;
 
     memset(record - 16, 0, 16 + length);
-    put(record - 8, 4, length);
-    put(record - 4, 4, length);
+    put(record - 8, 4, stated);
+    put(record - 4, 4, stated);
     if (tagged)
         put(record + 12, 2, 0x0081);
     put(record + ip - 2, 2, 0x0008);
@@ -131,47 +220,124 @@ static uint8_t *datagram(uint8_t *capture, size_t *len, int tagged, unsigned por
     return record + ip + 28;
 }
 
-static void velodyne(uint64_t *random, uint8_t *payload, uint8_t model)
+static void velodyne_packet(uint8_t *payload, uint8_t model)
 {
-    for (size_t i = 0; i < 1206; i++)
-        payload[i] = (uint8_t)next(random);
+    put_random(payload, 1206);
     for (size_t block = 0; block < 12; block++) {
-        put(payload + 100 * block, 2, next(random) % 8 ? 0xFFEE : 0xEEFF);
-        put(payload + 100 * block + 2, 2, next(random) % 36000);
+        put(payload + 100 * block, 2, next(&random_state) % 8 ? 0xFFEE : 0xEEFF);
+        put(payload + 100 * block + 2, 2, next(&random_state) % 36000);
     }
     payload[1205] = model;
 }
 
-/* Captures of Velodyne and Ouster packets, with lengths that both readings take, and a KITTI file. */
-static void made(void)
+static void velodyne_capture(unsigned way, bool big_endian, unsigned packets, uint8_t model)
 {
-    static const uint32_t magics[4] = {0xd4c3b2a1, 0xa1b2c3d4, 0xa1b23c4d, 0x4d3cb2a1};
-    static const uint8_t models[4] = {0x22, 0x28, 0x21, 0x35};
-    static const unsigned beams[4] = {16, 32, 64, 128};
-    static uint8_t capture[LONGEST];
-    uint64_t random = 1;
+    size_t len = capture(way);
 
-    for (unsigned i = 0; i < 16; i++) {
-        size_t len = 24;
-        memset(capture, 0, 24);
-        put(capture, 4, magics[i % 4]);
-        for (unsigned packets = i / 4; packets + 1 > 0 && packets < 4; packets--)
-            velodyne(&random, datagram(capture, &len, packets % 2, 2368, 1206), models[i % 4]);
-        write_seed(capture, len, 2368, 1, 0);
+    for (unsigned i = 0; i < packets; i++)
+        velodyne_packet(datagram(&len, big_endian, i % 2, 2368, 1206), model);
+    write_seed(file, len, ask(2368, 1, 16));
+}
+
+/* Captures of each model, which each reading takes, and one with more points than are kept. */
+static void velodyne(void)
+{
+    static const uint8_t models[5] = {0x22, 0x28, 0x21, 0x35, 0x37};
+
+    for (unsigned i = 0; i < 40; i++)
+        velodyne_capture(i / 5, i / 20, 1 + i % 3, models[i % 5]);
+    velodyne_capture(1, false, 51, 0x22);
+}
+
+/* Captures for each number of beams, which each reading takes. */
+static void ouster(void)
+{
+    for (unsigned i = 0; i < 32; i++) {
+        unsigned columns = 1 + i % 3, beams = BEAMS_OF[i % 4];
+        size_t len = capture(i / 4), size = columns * (20 + 12 * beams);
+        for (unsigned packets = 0; packets < 1 + i % 2; packets++)
+            put_random(datagram(&len, i / 16, packets % 2, 7502, size), size);
+        write_seed(file, len, ask(7502, columns, beams));
     }
-    for (unsigned i = 0; i < 16; i++) {
-        size_t len = 24, columns = 1 + i / 4, size = columns * (20 + 12 * beams[i % 4]);
-        memset(capture, 0, 24);
-        put(capture, 4, magics[i / 4]);
-        uint8_t *payload = datagram(capture, &len, i % 2, 7502, size);
-        for (size_t k = 0; k < size; k++)
-            payload[k] = (uint8_t)next(&random);
-        write_seed(capture, len, 7502, (unsigned)columns, i % 4);
+}
+
+static void kitti(void)
+{
+    put_random(file, 160);
+    put(file + 4, 4, 0x7fc00001);
+    write_seed(file, 160, ask(0, 1, 16));
+}
+
+/* The header of a Livox file. Gives back where its frames start. */
+static size_t livox_header(bool lvx2, unsigned devices)
+{
+    size_t base = lvx2 ? 28 + 41 * devices : 29 + 59 * devices;
+
+    put_random(file, base);
+    if (lvx2) {
+        put(file, 4, 0x20200903);
+        put(file + 8, 4, 28);
+        file[24] = (uint8_t)devices;
+    } else {
+        memcpy(file, "livox_tech", 10);
+        put(file + 20, 4, 0xAC0EA767);
+        file[28] = (uint8_t)devices;
     }
-    for (size_t k = 0; k < 160; k++)
-        capture[k] = (uint8_t)next(&random);
-    put(capture + 4, 4, 0x7fc00001);
-    write_seed(capture, 160, 0, 1, 0);
+    return base;
+}
+
+/* A package of a type at a place. Gives back where it ends. Its length may tell more than that. */
+static size_t livox_package(size_t at, bool lvx2, uint8_t type, size_t length, size_t more)
+{
+    size_t header = lvx2 ? 11 : 27;
+
+    put_random(file + at, header + length);
+    file[at + (lvx2 ? 6 : 10)] = type;
+    put(file + at + (lvx2 ? 7 : 21), lvx2 ? 4 : 2, length + more);
+    return at + header + length;
+}
+
+/* A frame with a package of each type, known or not, and with bytes left over. The last body tells
+   more, and so runs on over the next frame. */
+static size_t livox_frame(size_t at, bool lvx2, unsigned first_type, size_t more)
+{
+    put_random(file + at, 24);
+    at += 24;
+    for (unsigned i = 0; i < 5; i++) {
+        uint8_t type = (uint8_t)((first_type + i) % 5);
+        at = livox_package(at, lvx2, type, next(&random_state) % 60, i == 4 ? more : 0);
+    }
+    return at;
+}
+
+/* Files of three frames. Of every second, bytes are told twice; the last frame has no next one, or one
+   at the data's end. */
+static void livox(void)
+{
+    for (unsigned i = 0; i < 16; i++) {
+        bool lvx2 = i % 2, told_twice = i / 2 % 2, goes_on = i / 8;
+        size_t base = livox_header(lvx2, i / 4 % 3), len = base;
+        for (unsigned frame = 0; frame < 3; frame++) {
+            size_t header = len;
+            len = livox_frame(len, lvx2, i + frame, told_twice && frame < 2 ? 90 : 0);
+            put(file + header + 8, 8, frame < 2 || goes_on ? len - base : 0);
+        }
+        write_seed(file, len, ask(0, 1, 16));
+    }
+}
+
+/* An LVX2 file in which each frame's body runs on to the data's end: far more points than bytes. */
+static void livox_many(void)
+{
+    enum { FRAMES = 200, FRAME = 24 + 11 };
+    size_t base = livox_header(true, 0), len = base + FRAMES * FRAME;
+
+    for (size_t at = base; at < len; at += FRAME) {
+        put_random(file + at, 24);
+        put(file + at + 8, 8, at + FRAME - base);
+        livox_package(at + 24, true, 0, 0, len - at - FRAME);
+    }
+    write_seed(file, len, ask(0, 1, 16));
 }
 
 int main(int argc, char **argv)
@@ -184,7 +350,11 @@ int main(int argc, char **argv)
     from_cases(argv[2]);
     for (int i = 3; i < argc; i++)
         from_file(argv[i]);
-    made();
+    velodyne();
+    ouster();
+    kitti();
+    livox();
+    livox_many();
     printf("%u seeds\n", written);
     return 0;
 }
