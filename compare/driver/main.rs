@@ -19,6 +19,7 @@ mod ouster;
 mod placing;
 mod random;
 mod reading;
+mod stored;
 mod tally;
 mod velodyne;
 mod words;
