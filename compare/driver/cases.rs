@@ -83,10 +83,14 @@ fn compare_list(list: &List, original: &Original, tally: &mut Tally) {
                 .map_err(|what| format!("{}: {what}", case.name))
         });
     }
-    if lines.lines().count() != kept.lines().count() {
-        let what = format!("{} is not as long as {}", list.stdout, list.stdin);
-        tally.beside("the lists", Err(what));
-    }
+    let what = match (lines.lines().count(), kept.lines().count()) {
+        (0, _) => format!("{} has no case", list.stdin),
+        (cases, answers) if cases != answers => {
+            format!("{} is not as long as {}", list.stdout, list.stdin)
+        }
+        _ => return,
+    };
+    tally.beside("the lists", Err(what));
 }
 
 /// Lines for a list, on standard output.
