@@ -7,9 +7,10 @@ use crate::original::{self, Original};
 use crate::ours::{Belt, OusterSettings};
 use crate::random::Random;
 use crate::reading::{Expected, CARTESIAN};
+use crate::stored::StoredReading;
 use crate::tally::Tally;
 use crate::words::{self, Reading};
-use crate::{kitti, livox, ours, ouster, placing, velodyne};
+use crate::{kitti, ours, ouster, placing, velodyne};
 
 /// A list that a program runs, what it is to write, and the name under which more lines are made.
 pub struct List {
@@ -43,9 +44,6 @@ const LONGEST_PACKETS: usize = 4000;
 
 /// The first cases of a generator are for boundaries; this one is any.
 const ANY_CASE: u64 = u64::MAX;
-
-/// As the program writes them, by the number that the C form has for each.
-const ENCODINGS: [&str; 4] = ["millimetres", "ten millimetres", "spherical", "float"];
 
 /// What the calls find in slices that they leave alone, the numbers by value or by pattern.
 const KIND_BEFORE: u8 = 9;
@@ -85,10 +83,14 @@ fn compare_list(list: &List, original: &Original, tally: &mut Tally) {
                 .map_err(|what| format!("{}: {what}", case.name))
         });
     }
-    if lines.lines().count() != kept.lines().count() {
-        let what = format!("{} is not as long as {}", list.stdout, list.stdin);
-        tally.beside("the lists", Err(what));
-    }
+    let what = match (lines.lines().count(), kept.lines().count()) {
+        (0, _) => format!("{} has no case", list.stdin),
+        (cases, answers) if cases != answers => {
+            format!("{} is not as long as {}", list.stdout, list.stdin)
+        }
+        _ => return,
+    };
+    tally.beside("the lists", Err(what));
 }
 
 /// Lines for a list, on standard output.
@@ -243,8 +245,6 @@ impl Case<'_> {
     fn hold(&self, original: &Original, told: &str) -> Result<(), String> {
         let data = &self.data[..];
         match self.call {
-            "lvx-rank" => self.hold_rank(original, Form::Lvx, told),
-            "lvx2-rank" => self.hold_rank(original, Form::Lvx2, told),
             "place-lvx" => self.hold_in_file(original, Form::Lvx, told),
             "place-lvx2" => self.hold_in_file(original, Form::Lvx2, told),
             "millimetres" => {
@@ -267,7 +267,7 @@ impl Case<'_> {
         }
     }
 
-    /// The whole line of a reader, or of a payload.
+    /// The whole line of a reader, of a payload or of a stored reading.
     fn line(&self, original: &Original) -> Result<String, String> {
         let data = &self.data[..];
         let cartesian = |read: original::Patterns| match read {
@@ -278,14 +278,7 @@ impl Case<'_> {
                 frames: 0,
             },
         };
-        let livox = |form| match original.read_livox(form, data) {
-            Err(number) => Expected::Refused(number),
-            Ok((bits, kinds, frames)) => Expected::Read {
-                bits,
-                kinds,
-                frames,
-            },
-        };
+        let livox = |form| Expected::livox(original.read_livox(form, data));
         Ok(match self.call {
             "kitti" => self.read(cartesian(original.read_kitti(data)), true),
             "kitti-bits" => self.read(cartesian(original.read_kitti(data)), false),
@@ -306,6 +299,8 @@ impl Case<'_> {
             "os1-64" => self.read(self.ouster(original, original::os1_64()), true),
             "os-128" => self.read(self.ouster(original, original::os_128()), true),
             "payload" => self.payload(),
+            "lvx-rank" => self.rank(original, Form::Lvx),
+            "lvx2-rank" => self.rank(original, Form::Lvx2),
             call => return Err(format!("no such call: {call}")),
         })
     }
@@ -390,51 +385,22 @@ impl Case<'_> {
         }
     }
 
-    /// The point of the case's rank, by the original: its patterns and its kind, or a number.
-    fn point(&self, original: &Original, form: Form) -> Result<([u32; 3], u8), u8> {
+    /// The stored reading of the case's rank, by the original, or a number.
+    fn stored_reading(&self, original: &Original, form: Form) -> Result<StoredReading, u8> {
         let rank = self.number(1) as usize;
-        let (bits, kinds, _) = original.read_livox(form, &self.data)?;
-        let point = bits.chunks(3).nth(rank).ok_or(11)?;
-        Ok(([point[0], point[1], point[2]], kinds[rank]))
+        original.read_livox(form, &self.data)?.stored_reading(rank)
     }
 
-    /// The kept reading, turned into a point, is the original's.
-    fn hold_rank(&self, original: &Original, form: Form, told: &str) -> Result<(), String> {
-        let got = match told.rsplitn(4, ' ').collect::<Vec<_>>()[..] {
-            [z, y, x, encoding] => {
-                let encoding = ENCODINGS.iter().position(|&name| name == encoding);
-                let encoding = encoding.ok_or_else(|| format!("no reading: {told}"))?;
-                let number = |hex| u32::from_str_radix(hex, 16).map_err(|e| e.to_string());
-                let numbers = [number(x)?, number(y)?, number(z)?].map(i64::from);
-                Ok(livox::point_of(encoding as u8 + 1, numbers))
-            }
-            _ => Err(told.parse().map_err(|_| format!("no number: {told}"))?),
-        };
-        let want = self.point(original, form);
-        if got == want {
-            Ok(())
-        } else {
-            Err(format!("{told} is kept, and the oracle tells {want:08x?}"))
+    fn rank(&self, original: &Original, form: Form) -> String {
+        match self.stored_reading(original, form) {
+            Ok(reading) => reading.words(),
+            Err(number) => number.to_string(),
         }
     }
 
-    /// The original tells the point, which the stored reading has to be; its whole number is placed.
     fn hold_in_file(&self, original: &Original, form: Form, told: &str) -> Result<(), String> {
-        let got = placed(told)?;
-        let point = match self.point(original, form) {
-            Err(number) => return placing::hold_refused(got, number),
-            Ok(point) => point,
-        };
-        let rank = self.number(1) as usize;
-        let (_, encoding, numbers) = ours::stored_reading(&self.data, form == Form::Lvx2, rank);
-        if livox::point_of(encoding, numbers) != point {
-            return Err("the stored reading is not the original's point".to_string());
-        }
-        match encoding {
-            1 => placing::hold_moved(got, numbers[0] as i128 * 1_000, self.belt(2)),
-            2 => placing::hold_moved(got, numbers[0] as i128 * 10_000, self.belt(2)),
-            _ => placing::hold_refused(got, 11),
-        }
+        let reading = self.stored_reading(original, form);
+        placing::hold_reading(placed(told)?, reading, self.belt(2))
     }
 }
 
@@ -451,13 +417,16 @@ fn by_words(
 
 /// A placing as the program writes it.
 fn placed(told: &str) -> Result<ours::Placed, String> {
-    let mut words = told.split(' ');
-    let number = words.next().and_then(|word| word.parse().ok());
-    let bits = match words.next() {
-        None => Some(ours::NO_DISTANCE),
-        Some(word) => u32::from_str_radix(word, 16).ok(),
+    let (number, bits) = match told.split_once(' ') {
+        None => (told.parse().ok(), Some(ours::NO_DISTANCE)),
+        Some((number, word)) => (number.parse().ok(), u32::from_str_radix(word, 16).ok()),
     };
-    number
-        .zip(bits)
+    let placed = number.zip(bits);
+    // Other words for the same placing are wrong, too.
+    placed
+        .filter(|&(number, bits)| match number {
+            0 => told == format!("0 {bits:08x}"),
+            _ => told == number.to_string(),
+        })
         .ok_or_else(|| format!("no placing: {told}"))
 }

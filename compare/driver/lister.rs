@@ -72,10 +72,13 @@ fn expected(original: &Original, data: &[u8]) -> String {
     };
     match original.read_livox(form, data) {
         Err(number) => format!("refused {number}\n"),
-        Ok((_, kinds, _)) if kinds.len() > POINTS => format!("refused 10 {}\n", kinds.len()),
-        Ok((bits, kinds, frames)) => {
-            let mut text = format!("points {} frames {frames}\n", kinds.len());
-            for (point, &kind) in bits.chunks(3).zip(&kinds) {
+        Ok(file) => {
+            let kinds = file.kinds();
+            if kinds.len() > POINTS {
+                return format!("refused 10 {}\n", kinds.len());
+            }
+            let mut text = format!("points {} frames {}\n", kinds.len(), file.frames);
+            for (point, &kind) in file.bits.chunks(3).zip(&kinds) {
                 let letter = if kind == POLAR { 'p' } else { 'c' };
                 let [x, y, z] = [point[0], point[1], point[2]];
                 writeln!(text, "{letter} {x:08x} {y:08x} {z:08x}").unwrap();

@@ -8,6 +8,7 @@ use crate::ours::{self, Answer};
 use crate::placing;
 use crate::random::Random;
 use crate::reading::{hold_all, refusal, Call, Expected, Room};
+use crate::stored::StoredReading;
 use crate::tally::Tally;
 
 const LVX: [Call; 2] = [
@@ -32,14 +33,7 @@ pub fn compare(original: &Original, form: Form, seed: u64, files: u64) -> Tally 
         tally.file(case, &data, |data| {
             // A generator of its own, so that a shorter file is tried in the same way.
             let mut random = Random::of_case(!seed, case);
-            let expected = match original.read_livox(form, data) {
-                Err(number) => Expected::Refused(number),
-                Ok((bits, kinds, frames)) => Expected::Read {
-                    bits,
-                    kinds,
-                    frames,
-                },
-            };
+            let expected = Expected::livox(original.read_livox(form, data));
             // A file's bytes may start at any address. A walk whose place wraps around would read what
             // lies before them.
             let start = 32 + random.below(16);
@@ -57,7 +51,7 @@ pub fn compare(original: &Original, form: Form, seed: u64, files: u64) -> Tally 
     tally
 }
 
-/// The stored readings of some ranks, turned into points, and their placings.
+/// The stored readings of some ranks, and their placings.
 pub fn compare_stored(original: &Original, form: Form, seed: u64, files: u64) -> Tally {
     let reader = match form {
         Form::Lvx => "lvx ranks",
@@ -69,7 +63,7 @@ pub fn compare_stored(original: &Original, form: Form, seed: u64, files: u64) ->
         tally.file(case, &data, |data| {
             let mut random = Random::of_case(!seed, case);
             let read = original.read_livox(form, data);
-            let points = read.as_ref().map_or(0, |(_, kinds, _)| kinds.len());
+            let points = read.as_ref().map_or(0, |file| file.bits.len() / 3);
             let any = random.below(points.max(1));
             for rank in [
                 0,
@@ -81,10 +75,7 @@ pub fn compare_stored(original: &Original, form: Form, seed: u64, files: u64) ->
             ] {
                 let expected = match &read {
                     Err(number) => Err(*number),
-                    Ok((bits, kinds, _)) if rank < points => {
-                        Ok((&bits[3 * rank..3 * rank + 3], kinds[rank]))
-                    }
-                    Ok(_) => Err(11),
+                    Ok(file) => file.stored_reading(rank),
                 };
                 hold_rank(form == Form::Lvx2, data, rank, expected, &mut random)
                     .map_err(|what| format!("rank {rank} of {points}: {what}"))?;
@@ -99,46 +90,22 @@ fn hold_rank(
     lvx2: bool,
     data: &[u8],
     rank: usize,
-    expected: Result<(&[u32], u8), u8>,
+    expected: Result<StoredReading, u8>,
     random: &mut Random,
 ) -> Result<(), String> {
-    let stored = ours::stored_reading(data, lvx2, rank);
+    let told = ours::stored_reading(data, lvx2, rank);
+    let want = match expected {
+        Err(number) => (number, 0, [0; 3]),
+        Ok(reading) => {
+            let (form, numbers) = reading.numbers();
+            (0, form, numbers)
+        }
+    };
+    if told != want {
+        return Err(format!("{told:?} instead of {want:?}"));
+    }
     let belt = placing::belt(random);
-    let placed = ours::place_in_file(data, lvx2, rank, belt);
-    let (bits, kind) = match expected {
-        Ok(point) => point,
-        Err(number) if stored != (number, 0, [0; 3]) => {
-            return Err(format!("{stored:?} instead of refusal {number}"))
-        }
-        Err(number) => return placing::hold_refused(placed, number),
-    };
-    let (0, encoding, numbers) = stored else {
-        return Err(format!("{stored:?} instead of a reading"));
-    };
-    let (point, point_kind) = point_of(encoding, numbers);
-    if point != bits || point_kind != kind {
-        return Err(format!("{stored:?} is not {bits:08x?} of kind {kind}"));
-    }
-    match encoding {
-        1 => placing::hold_moved(placed, numbers[0] as i128 * 1_000, belt),
-        2 => placing::hold_moved(placed, numbers[0] as i128 * 10_000, belt),
-        _ => placing::hold_refused(placed, 11),
-    }
-}
-
-/// A stored reading as a point, as lidar.rs turns each encoding into one: the patterns and the kind.
-pub fn point_of(encoding: u8, numbers: [i64; 3]) -> ([u32; 3], u8) {
-    match encoding {
-        1 => (numbers.map(|x| (x as i32 as f32 / 1000.0).to_bits()), 1),
-        2 => (numbers.map(|x| (x as i16 as f32 * 0.01).to_bits()), 1),
-        3 => {
-            let [depth, zenith, azimuth] = numbers;
-            let angle = |n: i64| (n as u16 as f32 * 0.01).to_bits();
-            let range = (depth as u32 as f32 / 1000.0).to_bits();
-            ([range, angle(zenith), angle(azimuth)], 2)
-        }
-        _ => (numbers.map(|x| x as u32), 1),
-    }
+    placing::hold_reading(ours::place_in_file(data, lvx2, rank, belt), expected, belt)
 }
 
 /// One frame, which ends the walk. The original has no such limit.

@@ -1,7 +1,7 @@
 //! Gives files to the original lidar.rs and to the facade, and compares what each makes of them.
 //!
 //! Arguments: a directory for the files, the lister, the seed, the number of files for each thing
-//! compared, and the names of what to compare, which is everything where none is given.
+//! compared, at least 1, and the names of what to compare, which is everything where none is given.
 
 mod capture_files;
 mod captures;
@@ -19,6 +19,7 @@ mod ouster;
 mod placing;
 mod random;
 mod reading;
+mod stored;
 mod tally;
 mod velodyne;
 mod words;
@@ -92,7 +93,7 @@ fn main() -> ExitCode {
     let [directory, lister, seed, files, named @ ..] = &arguments[..] else {
         return usage();
     };
-    let (Ok(seed), Ok(files)) = (seed.parse(), files.parse()) else {
+    let (Ok(seed), Ok(files @ 1..)) = (seed.parse(), files.parse()) else {
         return usage();
     };
     for list in &cases::LISTS {
@@ -126,7 +127,7 @@ fn main() -> ExitCode {
 }
 
 fn usage() -> ExitCode {
-    eprintln!("the seed and the number of files are whole numbers below 2^64; then, if not all is to be compared, any of:");
+    eprintln!("the seed and the number of files are whole numbers below 2^64, the second not 0; then, if not all is to be compared, any of:");
     for (name, _) in COMPARISONS {
         eprintln!("  {name}");
     }

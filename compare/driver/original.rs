@@ -2,6 +2,7 @@
 
 use crate::livox_files::Form;
 use crate::ours::OusterSettings;
+use crate::stored::StoredReading;
 use std::fs;
 use std::path::{Path, PathBuf};
 use threecrate_core::{Error, Point3f, PointCloud, Result};
@@ -9,7 +10,8 @@ use threecrate_io::lidar::{
     pcap_extract_udp_payloads, LivoxLvx2Reader, LivoxLvxReader, OusterPcapReader,
     VelodyneKittiBinReader, VelodynePcapReader,
 };
-use threecrate_io::{frames, kinds, places};
+use threecrate_io::stored::{self, StoredPoint};
+use threecrate_io::{frames, places};
 
 /// The original refuses with a text. A part of it tells which of our numbers it stands for.
 const REFUSALS: [(&str, u8); 12] = [
@@ -29,6 +31,30 @@ const REFUSALS: [(&str, u8); 12] = [
 
 /// Three patterns a point, or the number of the refusal.
 pub type Patterns = std::result::Result<Vec<u32>, u8>;
+
+/// A Livox file as the original reads it.
+pub struct LivoxFile {
+    /// Three patterns a point.
+    pub bits: Vec<u32>,
+    /// Each point, as the file stores it.
+    points: Vec<StoredPoint>,
+    pub frames: usize,
+}
+
+impl LivoxFile {
+    pub fn kinds(&self) -> Vec<u8> {
+        let kind = |point| StoredReading::of(point).point().1;
+        self.points.iter().map(kind).collect()
+    }
+
+    /// The stored reading of a rank, or refusal 11.
+    pub fn stored_reading(&self, rank: usize) -> std::result::Result<StoredReading, u8> {
+        let reading = StoredReading::of(self.points.get(rank).ok_or(11)?);
+        // It is the reading of this point.
+        assert_eq!(reading.point().0, self.bits[3 * rank..3 * rank + 3]);
+        Ok(reading)
+    }
+}
 
 /// A payload, and where it starts in the data.
 pub struct Payload {
@@ -68,23 +94,21 @@ impl Original {
         or_number(read).map(patterns)
     }
 
-    /// The patterns, the kinds and the frames that are entered, or the number of the refusal.
-    pub fn read_livox(
-        &self,
-        form: Form,
-        data: &[u8],
-    ) -> std::result::Result<(Vec<u32>, Vec<u8>, usize), u8> {
+    /// The file, or the number of the refusal.
+    pub fn read_livox(&self, form: Form, data: &[u8]) -> std::result::Result<LivoxFile, u8> {
         self.write(data);
         let read = match form {
             Form::Lvx => LivoxLvxReader::new().read(&self.file),
             Form::Lvx2 => LivoxLvx2Reader::new().read(&self.file),
         };
-        let kinds = kinds::take()
-            .iter()
-            .map(|&polar| 1 + u8::from(polar))
-            .collect();
-        let frames = frames::take();
-        or_number(read).map(|cloud| (patterns(cloud), kinds, frames))
+        let (points, frames) = (stored::take(), frames::take());
+        let bits = or_number(read).map(patterns)?;
+        assert_eq!(bits.len(), 3 * points.len());
+        Ok(LivoxFile {
+            bits,
+            points,
+            frames,
+        })
     }
 
     /// The payloads on each port, each with its place, or the number of the refusal.

@@ -2,6 +2,7 @@
 
 use crate::ours::{self, Belt, Placed, NO_DISTANCE};
 use crate::random::Random;
+use crate::stored::StoredReading;
 use crate::tally::Tally;
 
 /// Beyond this many micrometres either way a placing is refused.
@@ -86,6 +87,19 @@ pub fn hold_moved(placed: Placed, micrometres: i128, belt: Belt) -> Result<(), S
         belt.pulse_length,
         micrometres + pulses * belt.pulse_length as i128,
     )
+}
+
+/// Holds a placing by file and rank to the point's stored reading.
+pub fn hold_reading(
+    placed: Placed,
+    reading: Result<StoredReading, u8>,
+    belt: Belt,
+) -> Result<(), String> {
+    match reading.map(StoredReading::micrometres) {
+        Ok(Some(micrometres)) => hold_moved(placed, micrometres, belt),
+        Ok(None) => hold_refused(placed, 11),
+        Err(number) => hold_refused(placed, number),
+    }
 }
 
 pub fn hold_refused((number, bits): Placed, expected: u8) -> Result<(), String> {

@@ -1,6 +1,7 @@
 //! What reading into lent slices should give, for every reader: holds one call to it.
 
 use crate::lent::{Canaries, Lent};
+use crate::original::LivoxFile;
 use crate::ours::Answer;
 use crate::random::Random;
 
@@ -29,6 +30,17 @@ impl Expected {
                 kinds: vec![POLAR; bits.len() / 3],
                 bits,
                 frames: 0,
+            },
+        }
+    }
+
+    pub fn livox(read: Result<LivoxFile, u8>) -> Self {
+        match read {
+            Err(number) => Expected::Refused(number),
+            Ok(file) => Expected::Read {
+                kinds: file.kinds(),
+                bits: file.bits,
+                frames: file.frames,
             },
         }
     }

@@ -80,7 +80,7 @@ impl Tally {
         }
     }
 
-    /// Prints the result line. True where nothing differs.
+    /// Prints the result line. True where nothing differs, of something.
     pub fn finish(self) -> bool {
         let Tally {
             reader,
@@ -90,7 +90,10 @@ impl Tally {
             ..
         } = self;
         println!("{reader}: {files} {things} compared, {differences} differences found");
-        differences == 0
+        if files == 0 {
+            eprintln!("{reader}: nothing was compared, which is a failure");
+        }
+        files > 0 && differences == 0
     }
 }
 

@@ -30,21 +30,30 @@ pub mod places {
     }
 }
 
-/// Whether each Livox point is polar. `compare/run` has it noted here.
-pub mod kinds {
+/// Each Livox point as the file stores it. `compare/run` has it noted here.
+pub mod stored {
     use std::cell::RefCell;
 
-    thread_local! {
-        static POLAR: RefCell<Vec<bool>> = const { RefCell::new(Vec::new()) };
+    /// The data type, and the bytes; after those of a smaller point come zeros.
+    #[derive(Clone, Copy)]
+    pub struct StoredPoint {
+        pub data_type: u8,
+        pub bytes: [u8; 14],
     }
 
-    pub fn note(polar: bool) {
-        POLAR.with_borrow_mut(|noted| noted.push(polar));
+    thread_local! {
+        static POINTS: RefCell<Vec<StoredPoint>> = const { RefCell::new(Vec::new()) };
+    }
+
+    pub fn note(data_type: u8, point: &[u8]) {
+        let mut bytes = [0; 14];
+        bytes[..point.len()].copy_from_slice(point);
+        POINTS.with_borrow_mut(|points| points.push(StoredPoint { data_type, bytes }));
     }
 
     /// Those noted since the last time.
-    pub fn take() -> Vec<bool> {
-        POLAR.take()
+    pub fn take() -> Vec<StoredPoint> {
+        POINTS.take()
     }
 }
 
