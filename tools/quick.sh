@@ -1,5 +1,5 @@
-# Settings that make rt quicker and change no verdict. ./test, ./list and ./staticlib read this from the
-# repository's root.
+# Settings that make rt quicker and change no verdict. Scripts that run rt read this from the repository's
+# root.
 
 # A check copies what lies below its crate into thousands of small files of TMPDIR, and a memory disk
 # takes these far quicker. It needs room for several checks, and rt runs programs there.
