@@ -213,10 +213,7 @@ fn none_from(at: usize) -> Stepped {
 
 /// One record as long as the data allows, around refusal 1. The original has no such limit.
 fn long_data(reading: Reading) -> Result<(), String> {
-    let Some(data) = untouched(TOO_LONG + 1) else {
-        eprintln!("captures: no {TOO_LONG} bytes to be had, so refusal 1 is left out");
-        return Ok(());
-    };
+    let data = untouched(TOO_LONG + 1)?;
     let most_first = [0xa1, 0xb2, 0xc3, 0xd4];
     let length = (TOO_LONG - 1 - 40) as u32;
     let (savefile, stated) = match reading {

@@ -95,10 +95,7 @@ pub fn file(random: &mut Random, case: u64) -> Vec<u8> {
 /// The refusals that a length around 2^31 gives. The original has no such limit, and is not asked.
 /// No answer depends on the bytes, so the memory is never touched and takes no room.
 fn long_data(canaries: &mut Canaries) -> Result<(), String> {
-    let Some(data) = untouched(TOO_LONG + RECORD) else {
-        eprintln!("kitti: no {TOO_LONG} bytes to be had, so refusal 1 is left out");
-        return Ok(());
-    };
+    let data = untouched(TOO_LONG + RECORD)?;
     let room = Room {
         numbers: 5,
         kinds: 2,

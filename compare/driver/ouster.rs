@@ -208,10 +208,7 @@ fn made_ready(mut got: OusterSettings, want: OusterSettings) -> Result<(), Strin
 
 /// Refusal 1 comes before refusal 2. The original has no such limit.
 fn long_data(savefiles: &[Option<bool>]) -> Result<(), String> {
-    let Some(data) = untouched(TOO_LONG + 1) else {
-        eprintln!("ouster: no {TOO_LONG} bytes to be had, so refusal 1 is left out");
-        return Ok(());
-    };
+    let data = untouched(TOO_LONG + 1)?;
     let good = ours::os1_64();
     let bad = OusterSettings {
         pixels_per_column: 48,

@@ -331,6 +331,38 @@ fn ouster_packets() {
     }
 }
 
+/// Each number of a stored reading keeps its sign and all its bits.
+#[test]
+fn stored_numbers() {
+    // Of one point, whose numbers end with reflectivity and tag.
+    let stored = |data_type: u8, numbers: Vec<u8>| {
+        let mut package = [0; 11];
+        (package[6], package[7]) = (data_type, numbers.len() as u8 + 2);
+        let file = [&lvx2(28)[..], &[0; 24], &package, &numbers, &[0; 2]].concat();
+        stored_reading(Form::Lvx2, &file, 0)
+    };
+    let (x, y, z) = (i16::MIN, i16::MAX, 0x1234);
+    assert_eq!(
+        stored(0, [x, y, z].map(i16::to_le_bytes).concat()),
+        Ok(StoredReading::TenMillimetres { x, y, z })
+    );
+    let (x, y, z) = (i32::MIN, i32::MAX, 0x1234_5678);
+    assert_eq!(
+        stored(1, [x, y, z].map(i32::to_le_bytes).concat()),
+        Ok(StoredReading::Millimetres { x, y, z })
+    );
+    let (depth, zenith, azimuth) = (u32::MAX, 0xFFFE, 0x9234u16);
+    let angles = [zenith, azimuth].map(u16::to_le_bytes).concat();
+    assert_eq!(
+        stored(2, [&depth.to_le_bytes()[..], &angles].concat()),
+        Ok(StoredReading::Spherical {
+            depth,
+            zenith,
+            azimuth
+        })
+    );
+}
+
 fn at_millimetres(x: i32) -> StoredReading {
     StoredReading::Millimetres { x, y: 1, z: 2 }
 }

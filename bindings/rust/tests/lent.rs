@@ -264,20 +264,25 @@ fn ouster() {
             (Ok(points.clone()), Err(Refusal::NoPayload))
         };
         for (reading, named) in READ_AS {
-            Reader {
-                data: &capture(reading, 7502, &packet),
-                into: &|data, numbers, kinds| match named {
-                    Some(reading) => read_ouster_into_as(data, reading, &settings, numbers, kinds),
-                    None => read_ouster_into(data, &settings, numbers, kinds),
-                },
-                vector: &|data| match named {
-                    Some(reading) => read_ouster_as(data, reading, &settings),
-                    None => read_ouster(data, &settings),
-                },
-                whole: whole.clone(),
-                cut: cut.clone(),
+            // A packet to another port is none, whole or cut.
+            for (port, whole) in [(7502, &whole), (7503, &cut)] {
+                Reader {
+                    data: &capture(reading, port, &packet),
+                    into: &|data, numbers, kinds| match named {
+                        Some(reading) => {
+                            read_ouster_into_as(data, reading, &settings, numbers, kinds)
+                        }
+                        None => read_ouster_into(data, &settings, numbers, kinds),
+                    },
+                    vector: &|data| match named {
+                        Some(reading) => read_ouster_as(data, reading, &settings),
+                        None => read_ouster(data, &settings),
+                    },
+                    whole: whole.clone(),
+                    cut: cut.clone(),
+                }
+                .check();
             }
-            .check();
         }
     }
 }
@@ -311,5 +316,17 @@ fn payloads_of_captures() {
             Ok(vec![bytes.clone()]),
             Ok(vec![]),
         );
+        // The port, too, is passed on.
+        for (port, found) in [(2367, None), (2369, None), (0, Some(&bytes[..]))] {
+            let (one, all) = match named {
+                Some(reading) => (
+                    payload_as(&data, reading, port, 0),
+                    payloads_as(&data, reading, port),
+                ),
+                None => (payload(&data, port, 0), payloads(&data, port)),
+            };
+            assert_eq!(one, Ok(found), "port {port}");
+            assert_eq!(all.unwrap().next(), found, "port {port}");
+        }
     }
 }
