@@ -239,26 +239,33 @@ static void velodyne_capture(unsigned way, bool big_endian, unsigned packets, ui
     write_seed(file, len, ask(2368, 1, 16));
 }
 
-/* Captures of each model, which each reading takes, and one with more points than are kept. */
+/* Captures of each model, which each reading takes, one of thousands of points, and one of more than are
+   kept. */
 static void velodyne(void)
 {
     static const uint8_t models[5] = {0x22, 0x28, 0x21, 0x35, 0x37};
 
     for (unsigned i = 0; i < 40; i++)
         velodyne_capture(i / 5, i / 20, 1 + i % 3, models[i % 5]);
+    velodyne_capture(1, false, 20, 0x22);
     velodyne_capture(1, false, 51, 0x22);
 }
 
-/* Captures for each number of beams, which each reading takes. */
+static void ouster_capture(unsigned way, bool big_endian, unsigned packets, unsigned columns, unsigned beams)
+{
+    size_t len = capture(way), size = columns * (20 + 12 * beams);
+
+    for (unsigned i = 0; i < packets; i++)
+        put_random(datagram(&len, big_endian, i % 2, 7502, size), size);
+    write_seed(file, len, ask(7502, columns, beams));
+}
+
+/* Captures for each number of beams, which each reading takes, and one of the most columns. */
 static void ouster(void)
 {
-    for (unsigned i = 0; i < 32; i++) {
-        unsigned columns = 1 + i % 3, beams = BEAMS_OF[i % 4];
-        size_t len = capture(i / 4), size = columns * (20 + 12 * beams);
-        for (unsigned packets = 0; packets < 1 + i % 2; packets++)
-            put_random(datagram(&len, i / 16, packets % 2, 7502, size), size);
-        write_seed(file, len, ask(7502, columns, beams));
-    }
+    for (unsigned i = 0; i < 32; i++)
+        ouster_capture(i / 4, i / 16, 1 + i % 2, 1 + i % 3, BEAMS_OF[i % 4]);
+    ouster_capture(1, false, 1, 64, 16);
 }
 
 static void kitti(void)
@@ -310,17 +317,18 @@ static size_t livox_frame(size_t at, bool lvx2, unsigned first_type, size_t more
     return at;
 }
 
-/* Files of three frames. Of every second, bytes are told twice; the last frame has no next one, or one
-   at the data's end. */
+/* Files of three frames, and then of 30. Of every second, bytes are told twice; the last frame has no next
+   one, or one at the data's end. */
 static void livox(void)
 {
-    for (unsigned i = 0; i < 16; i++) {
+    for (unsigned i = 0; i < 18; i++) {
         bool lvx2 = i % 2, told_twice = i / 2 % 2, goes_on = i / 8;
+        unsigned last = i < 16 ? 2 : 29;
         size_t base = livox_header(lvx2, i / 4 % 3), len = base;
-        for (unsigned frame = 0; frame < 3; frame++) {
+        for (unsigned frame = 0; frame <= last; frame++) {
             size_t header = len;
-            len = livox_frame(len, lvx2, i + frame, told_twice && frame < 2 ? 90 : 0);
-            put(file + header + 8, 8, frame < 2 || goes_on ? len - base : 0);
+            len = livox_frame(len, lvx2, i + frame, told_twice && frame < last ? 90 : 0);
+            put(file + header + 8, 8, frame < last || goes_on ? len - base : 0);
         }
         write_seed(file, len, ask(0, 1, 16));
     }
