@@ -164,19 +164,30 @@ void lidar_os_128(size_t *columns_per_packet, size_t *pixels_per_column, uint16_
    port       the destination port; 0 asks for every one
    start      takes where the payload's first byte stands in the data
    len        takes the payload's length
+   seconds    takes the seconds since 1970 that the payload's record states
+   fraction   takes the fraction of a second as the record stores it: it may be a second or more
+   unit       takes what the fraction counts, which the magic says: an enum lidar_time_unit
 
-   *start and *len are always written: where there is a payload, *len is at least 1, and where there is
-   none, both are 0.
+   All five are always written: where there is a payload, *len is at least 1, and where there is none,
+   all are 0, whatever the magic says. The byte order of seconds and fraction is that of the lengths,
+   by the reading; the unit is the same in both readings.
    The calls without `savefile` use the usual reading, which is the original's. */
+
+enum lidar_time_unit {
+    LIDAR_MICROSECONDS = 0,
+    LIDAR_NANOSECONDS = 1
+};
 
 /* Finds the payload of a rank, counted from 0. Gives back LIDAR_READ, whether or not there is one,
    or LIDAR_TOO_LONG, LIDAR_TOO_SHORT or LIDAR_WRONG_MARK. Takes time for the records up to that
    payload: to go through all of them, use lidar_next_payload. */
 uint8_t lidar_payload_place_as(const uint8_t *data, size_t data_len, bool savefile,
-                               uint16_t port, size_t rank, size_t *start, size_t *len);
+                               uint16_t port, size_t rank, size_t *start, size_t *len,
+                               uint32_t *seconds, uint32_t *fraction, uint8_t *unit);
 
 uint8_t lidar_payload_place(const uint8_t *data, size_t data_len,
-                            uint16_t port, size_t rank, size_t *start, size_t *len);
+                            uint16_t port, size_t rank, size_t *start, size_t *len,
+                            uint32_t *seconds, uint32_t *fraction, uint8_t *unit);
 
 /* Finds the next payload, and gives back whether there was one. *at is where the walk stands: 0
    before the first call, and then what the last call left in it, after the payload's record. 1 to 23
@@ -184,14 +195,19 @@ uint8_t lidar_payload_place(const uint8_t *data, size_t data_len,
    record started there. Where there is no payload more, or the capture is refused, *at stays.
 
        size_t at = 0, start, len;
-       while (lidar_next_payload(data, data_len, port, &at, &start, &len))
-           use(data + start, len);
+       uint32_t seconds, fraction;
+       uint8_t unit;
+       while (lidar_next_payload(data, data_len, port, &at, &start, &len,
+                                 &seconds, &fraction, &unit))
+           use(data + start, len, seconds, fraction, unit);
 */
 bool lidar_next_payload_as(const uint8_t *data, size_t data_len, bool savefile,
-                           uint16_t port, size_t *at, size_t *start, size_t *len);
+                           uint16_t port, size_t *at, size_t *start, size_t *len,
+                           uint32_t *seconds, uint32_t *fraction, uint8_t *unit);
 
 bool lidar_next_payload(const uint8_t *data, size_t data_len,
-                        uint16_t port, size_t *at, size_t *start, size_t *len);
+                        uint16_t port, size_t *at, size_t *start, size_t *len,
+                        uint32_t *seconds, uint32_t *fraction, uint8_t *unit);
 
 /* ---- placing a Livox point on the belt
 

@@ -4,8 +4,8 @@ use Prim.Native.Nat.{ℕ, _≤_}
 use native.Mathlib.Nat.{lt-of-not-le}
 use native.Mathlib.Omega.{arith}
 use native.Mathlib.Decide.{decLe, ℕ-discrete}
-use mathlib.Core.Path.{_≡_, refl, sym}
-use mathlib.Core.Bool.{true, false, cond}
+use mathlib.Core.Path.{_≡_, refl, sym, ap}
+use mathlib.Core.Bool.{Bool, true, false, cond}
 use mathlib.Core.List.{List, [], _∷_}
 use lib.Dec.{eqb, ltb}
 use borrow.Author.Tests.{ne-eqb, lt-ltb, le-ltb}
@@ -18,7 +18,7 @@ use Rattle.capture.specs.declared.walk.Step.the-variants.{Payload, End}
 use Rattle.savefile.specs.Savefile.{checks}
 use Rattle.capture.specs.Payloads.{placesFrom, payloads, startCursor, stepOf}
 use Rattle.capture.proofs.Steps.{step-end, step-payload, step-on}
-use Rattle.c_capture.specs.Capture.{nextTold, tellStep, movedOn, tellNext}
+use Rattle.c_capture.specs.Capture.{PayloadTold, tellPayload, movedOn, stepFrom, tellStep, tellNext}
 
 -- Where the walk stands, it stands after the file header.
 after-header : (at : ℕ) → 24 ≤ cond (ltb at 24) 24 at
@@ -27,6 +27,9 @@ after-header at =
       | yes h ↦ rw (le-ltb at 24 h) h
       | no h ↦ rw (lt-ltb at 24 (lt-of-not-le h)) (omega arith)
     ]
+
+never : {A : Type 0} → true ≡ false → A
+never e = let absurdly : _≡_ {A = ℕ} 0 1 = cc in absurd (omega arith)
 
 module _ (reading : Reading) (port : ℕ) (bytes : List ℕ) where
   -- the walk's cursor at a place
@@ -44,33 +47,32 @@ module _ (reading : Reading) (port : ℕ) (bytes : List ℕ) where
   unfolding placesFrom payloads
   all-to-come = refl
 
-  pub takes-none : (at after start len : ℕ) → tellNext reading port bytes at ≡ nextTold false after start len → toCome at ≡ []
-  unfolding tellNext
-  takes-none at after start len e =
+  pub takes-none : (at after : ℕ) (told : PayloadTold) → tellNext reading port bytes at ≡ (false, after, told) → toCome at ≡ []
+  unfolding tellNext stepFrom
+  takes-none at after told e =
       elim (ℕ-discrete (firstRefusal (checks reading bytes)) 0) [
         | yes z ↦ rw z (none (stepOf (cursorAt at) bytes) refl (rw z at e))
         | no n ↦ rw (ne-eqb (firstRefusal (checks reading bytes)) 0 n)
       ]
     where
-      none : (s : Step) → stepOf (cursorAt at) bytes ≡ s → tellStep at s ≡ nextTold false after start len → placesFrom (cursorAt at) bytes ≡ []
+      none : (s : Step) → stepOf (cursorAt at) bytes ≡ s → tellStep at s ≡ (false, after, told) → placesFrom (cursorAt at) bytes ≡ []
       none End q t = step-end (cursorAt at) bytes q
-      none (Payload p next) q t = let never : _≡_ {A = ℕ} 0 1 = cc in absurd (omega arith)
+      none (Payload p next) q t = never (ap (λ (x : Bool × ℕ × PayloadTold). x .0) t)
 
-  pub takes-one : (at after start len : ℕ) → tellNext reading port bytes at ≡ nextTold true after start len
-      → (p : Place) × (p .start ≡ start) × (p .len ≡ len) × (toCome at ≡ p ∷ toCome after)
-  unfolding tellNext
-  takes-one at after start len e =
+  pub takes-one : (at after : ℕ) (told : PayloadTold) → tellNext reading port bytes at ≡ (true, after, told) → (p : Place) × (tellPayload p ≡ told) × (toCome at ≡ p ∷ toCome after)
+  unfolding tellNext stepFrom
+  takes-one at after told e =
       elim (ℕ-discrete (firstRefusal (checks reading bytes)) 0) [
         | yes z ↦ rw z (one (stepOf (cursorAt at) bytes) refl (rw z at e))
-        | no n ↦ let told = rw (ne-eqb (firstRefusal (checks reading bytes)) 0 n) at e in let never : _≡_ {A = ℕ} 0 1 = cc in absurd (omega arith)
+        | no n ↦ never (sym (ap (λ (x : Bool × ℕ × PayloadTold). x .0) (rw (ne-eqb (firstRefusal (checks reading bytes)) 0 n) at e)))
       ]
     where
-      one : (s : Step) → stepOf (cursorAt at) bytes ≡ s → tellStep at s ≡ nextTold true after start len
-          → (p : Place) × (p .start ≡ start) × (p .len ≡ len) × (placesFrom (cursorAt at) bytes ≡ p ∷ placesFrom (cursorAt after) bytes)
-      one End q t = let never : _≡_ {A = ℕ} 0 1 = cc in absurd (omega arith)
+      one : (s : Step) → stepOf (cursorAt at) bytes ≡ s → tellStep at s ≡ (true, after, told)
+          → (p : Place) × (tellPayload p ≡ told) × (placesFrom (cursorAt at) bytes ≡ p ∷ placesFrom (cursorAt after) bytes)
+      one End q t = never (sym (ap (λ (x : Bool × ℕ × PayloadTold). x .0) t))
       one (Payload p next) q t =
           let on = step-on (cursorAt at) bytes p next q in
-          let same : next .at ≡ after = cc in
+          let same : next .at ≡ after = ap (λ (x : Bool × ℕ × PayloadTold). x .1) t in
           let past : 24 ≤ after = omega (arith, after-header at) in
           let there : cursorAt after ≡ next = rw (le-ltb after 24 past, ← same) (sym (on .1)) in
-          (p, cc, cc, rw there (step-payload (cursorAt at) bytes p next q))
+          (p, ap (λ (x : Bool × ℕ × PayloadTold). x .2) t, rw there (step-payload (cursorAt at) bytes p next q))

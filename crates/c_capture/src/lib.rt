@@ -3,6 +3,7 @@
 use c_form::reading_of;
 use capture::Cursor;
 use capture::Opened;
+use capture::Place;
 use capture::Reading;
 use capture::Step;
 ghost use mathlib.Core.Path.{_≡_};
@@ -10,7 +11,7 @@ ghost use Rattle.points.specs.ReadInto.{firstRefusal};
 ghost use Rattle.record_rule.specs.Reading.{usual};
 ghost use Rattle.savefile.specs.Savefile.{checks};
 ghost use Rattle.c_form.specs.Reading.{readingOf};
-ghost use Rattle.c_capture.specs.Capture.{movedOn, placeTold, tellPlace, nextTold, tellNext};
+ghost use Rattle.c_capture.specs.Capture.{payloadTold, tellPayload, tellPlace, movedOn, stepFrom, tellNext};
 
 #[no_mangle]
 pub extern "C" fn lidar_payload_place_as(
@@ -20,10 +21,23 @@ pub extern "C" fn lidar_payload_place_as(
     rank: usize,
     start: &mut usize,
     len: &mut usize,
+    seconds: &mut u32,
+    fraction: &mut u32,
+    unit: &mut u8,
 ) -> u8
-    ensures { λ r. ⌜ placeTold r (now (start .exit)) (now (len .exit)) ≡ tellPlace (readingOf savefile) port rank (now («data» .entry)) ⌝ }
+    ensures { λ r. ⌜ (r, payloadTold (now (start .exit)) (now (len .exit)) (now (seconds .exit), now (fraction .exit), now (unit .exit))) ≡ tellPlace (readingOf savefile) port rank (now («data» .entry)) ⌝ }
 {
-    tell_place(data, reading_of(savefile), port, rank, start, len)
+    tell_place(
+        data,
+        reading_of(savefile),
+        port,
+        rank,
+        start,
+        len,
+        seconds,
+        fraction,
+        unit,
+    )
 }
 
 #[no_mangle]
@@ -33,10 +47,23 @@ pub extern "C" fn lidar_payload_place(
     rank: usize,
     start: &mut usize,
     len: &mut usize,
+    seconds: &mut u32,
+    fraction: &mut u32,
+    unit: &mut u8,
 ) -> u8
-    ensures { λ r. ⌜ placeTold r (now (start .exit)) (now (len .exit)) ≡ tellPlace usual port rank (now («data» .entry)) ⌝ }
+    ensures { λ r. ⌜ (r, payloadTold (now (start .exit)) (now (len .exit)) (now (seconds .exit), now (fraction .exit), now (unit .exit))) ≡ tellPlace usual port rank (now («data» .entry)) ⌝ }
 {
-    tell_place(data, Reading::usual(), port, rank, start, len)
+    tell_place(
+        data,
+        Reading::usual(),
+        port,
+        rank,
+        start,
+        len,
+        seconds,
+        fraction,
+        unit,
+    )
 }
 
 #[no_mangle]
@@ -47,10 +74,23 @@ pub extern "C" fn lidar_next_payload_as(
     at: &mut usize,
     start: &mut usize,
     len: &mut usize,
+    seconds: &mut u32,
+    fraction: &mut u32,
+    unit: &mut u8,
 ) -> bool
-    ensures { λ r. ⌜ nextTold r (now (at .exit)) (now (start .exit)) (now (len .exit)) ≡ tellNext (readingOf savefile) port (now («data» .entry)) (now (at .entry)) ⌝ }
+    ensures { λ r. ⌜ (r, now (at .exit), payloadTold (now (start .exit)) (now (len .exit)) (now (seconds .exit), now (fraction .exit), now (unit .exit))) ≡ tellNext (readingOf savefile) port (now («data» .entry)) (now (at .entry)) ⌝ }
 {
-    tell_next(data, reading_of(savefile), port, at, start, len)
+    tell_next(
+        data,
+        reading_of(savefile),
+        port,
+        at,
+        start,
+        len,
+        seconds,
+        fraction,
+        unit,
+    )
 }
 
 #[no_mangle]
@@ -60,10 +100,23 @@ pub extern "C" fn lidar_next_payload(
     at: &mut usize,
     start: &mut usize,
     len: &mut usize,
+    seconds: &mut u32,
+    fraction: &mut u32,
+    unit: &mut u8,
 ) -> bool
-    ensures { λ r. ⌜ nextTold r (now (at .exit)) (now (start .exit)) (now (len .exit)) ≡ tellNext usual port (now («data» .entry)) (now (at .entry)) ⌝ }
+    ensures { λ r. ⌜ (r, now (at .exit), payloadTold (now (start .exit)) (now (len .exit)) (now (seconds .exit), now (fraction .exit), now (unit .exit))) ≡ tellNext usual port (now («data» .entry)) (now (at .entry)) ⌝ }
 {
-    tell_next(data, Reading::usual(), port, at, start, len)
+    tell_next(
+        data,
+        Reading::usual(),
+        port,
+        at,
+        start,
+        len,
+        seconds,
+        fraction,
+        unit,
+    )
 }
 
 fn tell_place(
@@ -73,12 +126,14 @@ fn tell_place(
     rank: usize,
     start: &mut usize,
     len: &mut usize,
+    seconds: &mut u32,
+    fraction: &mut u32,
+    unit: &mut u8,
 ) -> u8
-    ensures { λ r. ⌜ placeTold r (now (start .exit)) (now (len .exit)) ≡ tellPlace reading port rank (now («data» .entry)) ⌝ }
+    ensures { λ r. ⌜ (r, payloadTold (now (start .exit)) (now (len .exit)) (now (seconds .exit), now (fraction .exit), now (unit .exit))) ≡ tellPlace reading port rank (now («data» .entry)) ⌝ }
 {
     let place = payloads::payload_place_as(data, reading, port, rank);
-    *start = place.start;
-    *len = place.len;
+    tell_payload(place, start, len, seconds, fraction, unit);
     number_of(data, reading)
 }
 
@@ -99,21 +154,33 @@ fn tell_next(
     at: &mut usize,
     start: &mut usize,
     len: &mut usize,
+    seconds: &mut u32,
+    fraction: &mut u32,
+    unit: &mut u8,
 ) -> bool
-    ensures { λ r. ⌜ nextTold r (now (at .exit)) (now (start .exit)) (now (len .exit)) ≡ tellNext reading port (now («data» .entry)) (now (at .entry)) ⌝ }
+    ensures { λ r. ⌜ (r, now (at .exit), payloadTold (now (start .exit)) (now (len .exit)) (now (seconds .exit), now (fraction .exit), now (unit .exit))) ≡ tellNext reading port (now («data» .entry)) (now (at .entry)) ⌝ }
 {
-    *start = 0;
-    *len = 0;
+    match step_from(data, reading, port, *at) {
+        Step::Payload(place, next) => {
+            *at = next.at;
+            tell_payload(place, start, len, seconds, fraction, unit);
+            true
+        }
+        Step::End => {
+            tell_payload(Place::nowhere(), start, len, seconds, fraction, unit);
+            false
+        }
+    }
+}
+
+// The step from a place of the walk on. A capture that is refused has none.
+fn step_from(data: &[u8], reading: Reading, port: u16, at: usize) -> Step
+    ensures { λ r. ⌜ r ≡ stepFrom reading port (now («data» .entry)) at ⌝ }
+{
     let Opened::Walk(cursor) = capture::open_as(data, reading, port) else {
-        return false;
+        return Step::End;
     };
-    let Step::Payload(place, next) = moved_on(cursor, *at).step(data) else {
-        return false;
-    };
-    *at = next.at;
-    *start = place.start;
-    *len = place.len;
-    true
+    moved_on(cursor, at).step(data)
 }
 
 // The cursor moved on to a place. A place before it means its own.
@@ -125,4 +192,20 @@ fn moved_on(cursor: Cursor, at: usize) -> Cursor
     } else {
         cursor.moved_to(at)
     }
+}
+
+fn tell_payload(
+    place: Place,
+    start: &mut usize,
+    len: &mut usize,
+    seconds: &mut u32,
+    fraction: &mut u32,
+    unit: &mut u8,
+)
+    ensures { λ _. ⌜ payloadTold (now (start .exit)) (now (len .exit)) (now (seconds .exit), now (fraction .exit), now (unit .exit)) ≡ tellPayload place ⌝ }
+{
+    let time = place.time;
+    *start = place.start;
+    *len = place.len;
+    time.tell(seconds, fraction, unit);
 }

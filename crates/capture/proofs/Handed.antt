@@ -21,7 +21,7 @@ use Rattle.record_rule.specs.Captured.{recordBytes}
 use Rattle.record_rule.specs.Record.{verdict, startOf}
 use Rattle.record_rule.proofs.Inside.{Inside, AllInside, inside-length}
 use Rattle.record_rule.proofs.Tests.{payload-inside}
-use Rattle.savefile.specs.Savefile.{allRecordsFrom, orderOf, bigEndian, checks}
+use Rattle.savefile.specs.Savefile.{allRecordsFrom, formatOf, checks}
 use Rattle.savefile.proofs.Records.{records-inside}
 use Rattle.capture.specs.declared.walk.Cursor.{Cursor}
 use Rattle.capture.specs.declared.walk.Place.{Place}
@@ -112,10 +112,10 @@ module _ (reading : Reading) (port rank : ℕ) (bytes : List ℕ) where
   number = firstRefusal (checks reading bytes)
 
   abbrev records : List Record
-  records = allRecordsFrom (orderOf (bigEndian reading bytes)) bytes 24
+  records = allRecordsFrom (formatOf reading bytes) bytes 24
 
   lie-inside : AllInside bytes records
-  lie-inside = records-inside (orderOf (bigEndian reading bytes)) bytes (length bytes) 24
+  lie-inside = records-inside (formatOf reading bytes) bytes (length bytes) 24
 
   pub part-inside : placeOf reading port rank bytes .start + placeOf reading port rank bytes .len ≤ length bytes
   unfolding placeOf payloads yieldsFrom
@@ -133,8 +133,7 @@ module _ (reading : Reading) (port rank : ℕ) (bytes : List ℕ) where
 pub step-within : (c : Cursor) (bytes : List ℕ) (p : Place) (next : Cursor) → stepOf c bytes ≡ Payload p next → Within bytes p
 unfolding stepOf yieldsFrom
 step-within c bytes p next e =
-    let order = orderOf (c .«big_endian») in
-    go (yieldsAfter c bytes) (all-within (c .reading) (c .port) bytes (allRecordsFrom order bytes (c .at)) (records-inside order bytes (length bytes) (c .at))) e
+    go (yieldsAfter c bytes) (all-within (c .reading) (c .port) bytes (allRecordsFrom (c .format) bytes (c .at)) (records-inside (c .format) bytes (length bytes) (c .at))) e
   where
     go : (l : List Yield) → AllWithin bytes (placesOf l) → stepTo c l ≡ Payload p next → Within bytes p
     go [] a q = let never : _≡_ {A = ℕ} 0 1 = cc in absurd (omega arith)

@@ -7,21 +7,22 @@ use mathlib.Core.List.{List, [], _∷_, map}
 use lib.Dec.{eqb}
 use Rattle.points.specs.ReadInto.{firstRefusal}
 use Rattle.record_rule.specs.declared.reading.Reading.{Reading}
-use Rattle.savefile.specs.Savefile.{bigEndian, checks}
+use Rattle.savefile.specs.declared.RecordFormat.{RecordFormat}
+use Rattle.savefile.specs.Savefile.{formatOf, checks}
 use Rattle.savefile.specs.Headers.{fileHeader}
 use Rattle.capture.specs.declared.walk.Cursor.{Cursor}
 use Rattle.capture.specs.Payloads.{opening, startCursor}
 
 module _ (reading : Reading) (port : ℕ) (bytes : List ℕ) where
   -- The file header's answer, with a cursor where it accepts.
-  abbrev withCursor : ℕ × List Bool → ℕ × List Cursor
-  withCursor told = (told .0, map (λ (big : Bool). startCursor reading port bytes) (told .1))
+  abbrev withCursor : ℕ × List RecordFormat → ℕ × List Cursor
+  withCursor told = (told .0, map (λ (format : RecordFormat). startCursor reading port bytes) (told .1))
 
-  pub by-header : (told : ℕ × List Bool) → told ≡ fileHeader reading bytes → withCursor told ≡ opening reading port bytes
+  pub by-header : (told : ℕ × List RecordFormat) → told ≡ fileHeader reading bytes → withCursor told ≡ opening reading port bytes
   unfolding opening fileHeader
   by-header told e = ap withCursor e ∙ either (eqb (firstRefusal (checks reading bytes)) 0)
     where
-      either : (b : Bool) → let n = firstRefusal (checks reading bytes) in withCursor (n, cond b (bigEndian reading bytes ∷ []) []) ≡ (n, cond b (startCursor reading port bytes ∷ []) [])
+      either : (b : Bool) → let n = firstRefusal (checks reading bytes) in withCursor (n, cond b (formatOf reading bytes ∷ []) []) ≡ (n, cond b (startCursor reading port bytes ∷ []) [])
       either true = refl
       either false = refl
 

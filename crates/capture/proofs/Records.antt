@@ -2,7 +2,6 @@
 use Prim.Native.Nat.{ℕ, _+_, _-_, _≤_, _<_}
 use native.Mathlib.Omega.{arith}
 use mathlib.Core.Path.{_≡_, ap, _∙_, subst}
-use mathlib.Core.Bool.{Bool}
 use mathlib.Core.List.{List, [], _∷_, _++_, flatMap}
 use lib.ListN.{length, take, drop}
 use Rattle.record_rule.specs.declared.Record.{Record}
@@ -13,17 +12,18 @@ use Rattle.record_rule.specs.Captured.{recordBytes, recordEnd}
 use Rattle.record_rule.specs.Record.{verdict, startOf}
 use Rattle.record_rule.proofs.Inside.{Inside, inside-length}
 use Rattle.record_rule.proofs.Tests.{payload-inside}
-use Rattle.savefile.specs.Savefile.{recordAt, allRecordsFrom, orderOf}
+use Rattle.savefile.specs.declared.RecordFormat.{RecordFormat}
+use Rattle.savefile.specs.Savefile.{recordAt, allRecordsFrom}
 use Rattle.savefile.proofs.Records.{past, onward}
 use Rattle.capture.specs.Payloads.{yieldAt, yieldOf, yieldsFrom}
 
-module _ (reading : Reading) (big : Bool) (port : ℕ) (bytes : List ℕ) (at : ℕ) where
-  pub at-end : length bytes < recordEnd (recordAt (orderOf big) bytes at) → yieldsFrom reading big port bytes at ≡ []
+module _ (reading : Reading) (format : RecordFormat) (port : ℕ) (bytes : List ℕ) (at : ℕ) where
+  pub at-end : length bytes < recordEnd (recordAt format bytes at) → yieldsFrom reading format port bytes at ≡ []
   unfolding yieldsFrom flatMap
-  at-end h = rw (past (orderOf big) bytes (length bytes) at h)
+  at-end h = rw (past format bytes (length bytes) at h)
 
   -- the record that is there, and code lends its bytes
-  module _ (r : Record) (e : r ≡ recordAt (orderOf big) bytes at) (h : Inside bytes r) where
+  module _ (r : Record) (e : r ≡ recordAt format bytes at) (h : Inside bytes r) where
     pub further : at < recordEnd r
     further = rw e (omega arith)
 
@@ -34,10 +34,10 @@ module _ (reading : Reading) (big : Bool) (port : ℕ) (bytes : List ℕ) (at : 
     lent-is = let long : recordEnd r - r .body ≡ r .len = omega arith in rw long
 
     -- what the rule says of it decides what it yields
-    pub at-record : (s : Start) → startOf (verdict reading port lent) ≡ s → yieldsFrom reading big port bytes at ≡ yieldAt r s ++ yieldsFrom reading big port bytes (recordEnd r)
+    pub at-record : (s : Start) → startOf (verdict reading port lent) ≡ s → yieldsFrom reading format port bytes at ≡ yieldAt r s ++ yieldsFrom reading format port bytes (recordEnd r)
     unfolding yieldsFrom yieldOf flatMap
     at-record s rule =
-        let all : allRecordsFrom (orderOf big) bytes at ≡ r ∷ allRecordsFrom (orderOf big) bytes (recordEnd r) = rw e (onward (orderOf big) bytes (length bytes) at (omega arith) (subst (Inside bytes) e h)) in
+        let all : allRecordsFrom format bytes at ≡ r ∷ allRecordsFrom format bytes (recordEnd r) = rw e (onward format bytes (length bytes) at (omega arith) (subst (Inside bytes) e h)) in
         rw (all, ← rule, lent-is)
 
     pub in-record : (start len : ℕ) → startOf (verdict reading port lent) ≡ At start len → (start + len ≤ r .len) × (0 < len)

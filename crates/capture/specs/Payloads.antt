@@ -1,7 +1,7 @@
--- The payloads of a capture, in order, each with its place.
+-- The payloads of a capture, in order, each with its place and its time.
 use Prim.Native.Nat.{ℕ, _+_}
 use mathlib.Core.Path.{_≡_}
-use mathlib.Core.Bool.{Bool, cond}
+use mathlib.Core.Bool.{cond}
 use mathlib.Core.List.{List, [], _∷_, flatMap, map}
 use lib.Dec.{eqb}
 use lib.ListN.{take, drop, getD}
@@ -19,11 +19,13 @@ use Rattle.capture.specs.declared.walk.Step.{Step}
 use Rattle.capture.specs.declared.walk.Step.the-variants as Steps
 use Rattle.record_rule.specs.Captured.{recordBytes, recordEnd}
 use Rattle.record_rule.specs.Record.{verdict, startOf}
-use Rattle.savefile.specs.Savefile.{recordsFrom, allRecordsFrom, bigEndian, orderOf, checks}
+use Rattle.record_rule.specs.Time.{noTime}
+use Rattle.savefile.specs.declared.RecordFormat.{RecordFormat}
+use Rattle.savefile.specs.Savefile.{recordsFrom, allRecordsFrom, formatOf, checks}
 
--- The place of a payload, by where it starts in its record and how long it is.
+-- The place of a payload, by where it starts in its record and how long it is. Its time is the record's.
 abbrev pub placeIn : Record → ℕ → ℕ → Place
-placeIn r start len = record { header = r .header; start = r .body + start; len = len }
+placeIn r start len = record { header = r .header; start = r .body + start; len = len; time = r .time }
 
 -- What a record yields: a payload, and where the walk goes on after the record.
 pub record Yield : Type 0 where
@@ -46,19 +48,19 @@ abbrev pub placesOf : List Yield → List Place
 placesOf yields = map (λ (y : Yield). y .place) yields
 
 -- What the records from a place on yield.
-unfoldable pub yieldsFrom : Reading → Bool → ℕ → List ℕ → ℕ → List Yield
+unfoldable pub yieldsFrom : Reading → RecordFormat → ℕ → List ℕ → ℕ → List Yield
 unfolding yieldOf recordsFrom flatMap
-yieldsFrom reading big port bytes at = yieldsIn reading port bytes (allRecordsFrom (orderOf big) bytes at)
+yieldsFrom reading format port bytes at = yieldsIn reading port bytes (allRecordsFrom format bytes at)
 
 -- The places of the payloads on a port, in order; port 0 asks for every port. It is what an accepted capture means: the
 -- checks are not looked at here, but in `opening` and `placeOf`.
 unfoldable pub payloads : Reading → ℕ → List ℕ → List Place
 unfolding yieldsFrom
-payloads reading port bytes = placesOf (yieldsFrom reading (bigEndian reading bytes) port bytes 24)
+payloads reading port bytes = placesOf (yieldsFrom reading (formatOf reading bytes) port bytes 24)
 
--- No place: a payload never starts at 0.
+-- No place, and no time: a payload never starts at 0.
 abbrev pub nowhere : Place
-nowhere = record { header = 0; start = 0; len = 0 }
+nowhere = record { header = 0; start = 0; len = 0; time = noTime }
 
 -- What a number means for the place of a rank among some places: 0, that it is told; a refusal tells `nowhere`.
 abbrev pub handedAs : ℕ → List Place → ℕ → Place
@@ -83,16 +85,16 @@ PartAt start whole part = (part .0 ≡ whole .0) × (part .1 ≡ start + whole .
 
 -- The cursor after the file header.
 abbrev pub startCursor : Reading → ℕ → List ℕ → Cursor
-startCursor reading port bytes = record { at = 24; port = port; reading = reading; «big_endian» = bigEndian reading bytes }
+startCursor reading port bytes = record { at = 24; port = port; reading = reading; format = formatOf reading bytes }
 
 -- A cursor at another place.
 abbrev pub movedTo : Cursor → ℕ → Cursor
-movedTo cursor at = record { at = at; port = cursor .port; reading = cursor .reading; «big_endian» = cursor .«big_endian» }
+movedTo cursor at = record { at = at; port = cursor .port; reading = cursor .reading; format = cursor .format }
 
--- What the records from a cursor on yield, and the places of the payloads. Port, reading and byte order are the
--- cursor's: the file header is not looked at again.
+-- What the records from a cursor on yield, and the places of the payloads. Port, reading and how records are written are
+-- the cursor's: the file header is not looked at again.
 abbrev pub yieldsAfter : Cursor → List ℕ → List Yield
-yieldsAfter cursor bytes = yieldsFrom (cursor .reading) (cursor .«big_endian») (cursor .port) bytes (cursor .at)
+yieldsAfter cursor bytes = yieldsFrom (cursor .reading) (cursor .format) (cursor .port) bytes (cursor .at)
 
 unfoldable pub placesFrom : Cursor → List ℕ → List Place
 unfolding yieldsFrom

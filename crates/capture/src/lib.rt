@@ -3,6 +3,9 @@
 mod walk;
 
 pub use record_rule::Reading;
+pub use record_rule::TimeUnit;
+pub use record_rule::Timestamp;
+pub use savefile::RecordFormat;
 pub use walk::Cursor;
 pub use walk::Opened;
 pub use walk::Place;

@@ -4,4 +4,5 @@ pub mod Ethernet
 pub mod Ipv4
 pub mod Reading
 pub mod Record
+pub mod Time
 pub mod Udp

@@ -2,15 +2,19 @@
 
 mod reading;
 mod rule;
+mod time;
 
 pub use reading::Reading;
 pub use rule::Start;
 pub use rule::Verdict;
 pub use rule::judge;
+pub use time::TimeUnit;
+pub use time::Timestamp;
 
-// A record of a capture: where its header stands in the data, where its captured bytes start, and how many they are.
+// A record of a capture: where its header stands in the data, where its captured bytes start, how many they are, and when they were captured.
 pub struct Record {
     pub header: usize,
     pub body: usize,
     pub len: usize,
+    pub time: Timestamp,
 }

@@ -5,83 +5,83 @@ use native.Mathlib.Nat.{lt-of-not-le}
 use native.Mathlib.Decide.{decLe}
 use native.Mathlib.Omega.{arith}
 use mathlib.Core.Path.{_≡_, refl, sym, ap, _∙_, subst}
-use mathlib.Core.Bool.{Bool, cond}
+use mathlib.Core.Bool.{cond}
 use mathlib.Core.List.{List, [], _∷_}
 use lib.Dec.{leb}
 use lib.ListN.{length}
 use borrow.Author.Tests.{le-leb, lt-leb}
-use Rattle.fields.specs.Number.{ByteOrder}
 use Rattle.record_rule.specs.declared.Record.{Record}
 use Rattle.record_rule.specs.Captured.{recordEnd}
 use Rattle.record_rule.proofs.Inside.{Inside, AllInside}
+use Rattle.savefile.specs.declared.RecordFormat.{RecordFormat}
 use Rattle.savefile.specs.declared.Recorded.the-variants.{Whole, PastEnd}
-use Rattle.savefile.specs.Savefile.{recordAt, recordsFrom, orderOf}
+use Rattle.savefile.specs.Savefile.{recordAt, recordsFrom}
 use Rattle.savefile.specs.Headers.{recordedAt}
 
-module _ (order : ByteOrder) (bytes : List ℕ) where
-  pub past : (bound at : ℕ) → length bytes < recordEnd (recordAt order bytes at) → recordsFrom bound order bytes at ≡ []
+module _ (format : RecordFormat) (bytes : List ℕ) where
+  pub past : (bound at : ℕ) → length bytes < recordEnd (recordAt format bytes at) → recordsFrom bound format bytes at ≡ []
   unfolding recordsFrom
   past zero at h = refl
-  past (suc bound) at h = rw (lt-leb (recordEnd (recordAt order bytes at)) (length bytes) h)
+  past (suc bound) at h = rw (lt-leb (recordEnd (recordAt format bytes at)) (length bytes) h)
 
-  pub one-more : (bound at : ℕ) → let r = recordAt order bytes at in Inside bytes r → recordsFrom (suc bound) order bytes at ≡ r ∷ recordsFrom bound order bytes (recordEnd r)
+  pub one-more : (bound at : ℕ) → let r = recordAt format bytes at in Inside bytes r → recordsFrom (suc bound) format bytes at ≡ r ∷ recordsFrom bound format bytes (recordEnd r)
   unfolding recordsFrom
-  one-more bound at h = rw (le-leb (recordEnd (recordAt order bytes at)) (length bytes) h)
+  one-more bound at h = rw (le-leb (recordEnd (recordAt format bytes at)) (length bytes) h)
 
   -- More than enough is as good as enough.
-  pub enough : (b c at : ℕ) → length bytes ≤ at + b → length bytes ≤ at + c → recordsFrom b order bytes at ≡ recordsFrom c order bytes at
+  pub enough : (b c at : ℕ) → length bytes ≤ at + b → length bytes ≤ at + c → recordsFrom b format bytes at ≡ recordsFrom c format bytes at
   unfolding recordsFrom
   enough zero zero at h k = refl
   enough zero (suc c) at h k = sym (past (suc c) at (omega arith))
   enough (suc b) zero at h k = past (suc b) at (omega arith)
   enough (suc b) (suc c) at h k =
-      let r = recordAt order bytes at in
+      let r = recordAt format bytes at in
       ap (λ (t : List Record). cond (leb (recordEnd r) (length bytes)) (r ∷ t) []) (enough b c (recordEnd r) (omega arith) (omega arith))
 
   -- After a record that is there the walk goes on, with as large a bound.
-  pub onward : (bound at : ℕ) → length bytes ≤ bound → let r = recordAt order bytes at in Inside bytes r → recordsFrom bound order bytes at ≡ r ∷ recordsFrom bound order bytes (recordEnd r)
+  pub onward : (bound at : ℕ) → length bytes ≤ bound → let r = recordAt format bytes at in Inside bytes r → recordsFrom bound format bytes at ≡ r ∷ recordsFrom bound format bytes (recordEnd r)
   onward zero at l h = absurd (omega arith)
   onward (suc b) at l h =
-      let r = recordAt order bytes at in
+      let r = recordAt format bytes at in
       one-more b at h ∙ ap (λ (t : List Record). r ∷ t) (enough b (suc b) (recordEnd r) (omega arith) (omega arith))
 
   -- Each lies inside the data.
-  pub records-inside : (bound at : ℕ) → AllInside bytes (recordsFrom bound order bytes at)
+  pub records-inside : (bound at : ℕ) → AllInside bytes (recordsFrom bound format bytes at)
   unfolding recordsFrom
   records-inside zero at = tt
   records-inside (suc bound) at =
-      elim (decLe (recordEnd (recordAt order bytes at)) (length bytes)) [
-        | yes h ↦ subst (AllInside bytes) (sym (one-more bound at h)) (h, records-inside bound (recordEnd (recordAt order bytes at)))
+      elim (decLe (recordEnd (recordAt format bytes at)) (length bytes)) [
+        | yes h ↦ subst (AllInside bytes) (sym (one-more bound at h)) (h, records-inside bound (recordEnd (recordAt format bytes at)))
         | no h ↦ subst (AllInside bytes) (sym (past (suc bound) at (lt-of-not-le h))) tt
       ]
 
-  pub few-records : (bound at : ℕ) → length (recordsFrom bound order bytes at) ≤ bound
+  pub few-records : (bound at : ℕ) → length (recordsFrom bound format bytes at) ≤ bound
   unfolding recordsFrom
   few-records zero at = omega arith
   few-records (suc bound) at =
-      elim (decLe (recordEnd (recordAt order bytes at)) (length bytes)) [
-        | yes h ↦ rw (one-more bound at h) (omega (arith, few-records bound (recordEnd (recordAt order bytes at))))
+      elim (decLe (recordEnd (recordAt format bytes at)) (length bytes)) [
+        | yes h ↦ rw (one-more bound at h) (omega (arith, few-records bound (recordEnd (recordAt format bytes at))))
         | no h ↦ rw (past (suc bound) at (lt-of-not-le h)) (omega arith)
       ]
 
 -- ---- the record at a place, by code's test
-module _ (big : Bool) (bytes : List ℕ) (at : ℕ) where
+module _ (format : RecordFormat) (bytes : List ℕ) (at : ℕ) where
   abbrev here : Record
-  here = recordAt (orderOf big) bytes at
+  here = recordAt format bytes at
 
-  pub past-end : length bytes < recordEnd here → PastEnd ≡ recordedAt big bytes at
+  pub past-end : length bytes < recordEnd here → PastEnd ≡ recordedAt format bytes at
   unfolding recordedAt
   past-end h = rw (lt-leb (recordEnd here) (length bytes) h)
 
-  pub whole : Inside bytes here → Whole here ≡ recordedAt big bytes at
+  pub whole : Inside bytes here → Whole here ≡ recordedAt format bytes at
   unfolding recordedAt
   whole h = rw (le-leb (recordEnd here) (length bytes) h)
 
   -- and back
-  pub is-past : recordedAt big bytes at ≡ PastEnd → length bytes < recordEnd here
+  pub is-past : recordedAt format bytes at ≡ PastEnd → length bytes < recordEnd here
   is-past e = lt-of-not-le (λ (h : recordEnd here ≤ length bytes). let never : _≡_ {A = ℕ} 0 1 = cc (whole h) in omega arith)
 
-  pub is-whole : (r : Record) → recordedAt big bytes at ≡ Whole r → (r ≡ here) × Inside bytes r
+  pub is-whole : (r : Record) → recordedAt format bytes at ≡ Whole r → (r ≡ here) × Inside bytes r
   is-whole r e =
       elim (decLe (recordEnd here) (length bytes)) [
         | yes h ↦ let is : r ≡ here = cc (whole h) in (is, rw is h)

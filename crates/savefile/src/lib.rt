@@ -4,17 +4,24 @@ use fields::U32;
 use points::Refusal;
 use record_rule::Reading;
 use record_rule::Record;
+use record_rule::TimeUnit;
+use record_rule::Timestamp;
 ghost use mathlib.Core.Path.{_≡_};
 ghost use Prim.Native.Nat.{_+_, _≤_};
 ghost use lib.ListN.{length};
 ghost use Rattle.fields.specs.Number.{unsignedAt, field};
-ghost use Rattle.savefile.specs.Savefile.{orderOf, bigEndianBy};
+ghost use Rattle.savefile.specs.Savefile.{orderOf, bigEndianBy, formatBy, timeAt};
 ghost use Rattle.savefile.specs.Headers.{fileHeader, ofFileHeader, recordedAt};
 
-// What the file header tells.
+// How the records of a file are written, which its magic tells: whether their numbers are big-endian, and what the
+// fractions of their times count.
+pub struct RecordFormat {
+    pub big_endian: bool,
+    pub unit: TimeUnit,
+}
+
 pub enum FileHeader {
-    // Whether the records' lengths are big-endian.
-    Accepted(bool),
+    Accepted(RecordFormat),
     Refused(Refusal),
 }
 
@@ -37,11 +44,23 @@ pub fn file_header(data: &[u8], reading: Reading) -> FileHeader
     if data.len() < FILE_HEADER_LEN {
         return FileHeader::Refused(Refusal::TooShort);
     }
-    // Microseconds and nanoseconds: the magic's least significant byte first, then its most.
+    // The magic's least significant byte first, then its most.
     match u32_at(data, 0, true) {
-        0xd4c3_b2a1 | 0x4d3c_b2a1 => FileHeader::Accepted(is_big_endian(reading, true)),
-        0xa1b2_c3d4 | 0xa1b2_3c4d => FileHeader::Accepted(is_big_endian(reading, false)),
+        0xd4c3_b2a1 => FileHeader::Accepted(format_by(reading, true, TimeUnit::Microseconds)),
+        0x4d3c_b2a1 => FileHeader::Accepted(format_by(reading, true, TimeUnit::Nanoseconds)),
+        0xa1b2_c3d4 => FileHeader::Accepted(format_by(reading, false, TimeUnit::Microseconds)),
+        0xa1b2_3c4d => FileHeader::Accepted(format_by(reading, false, TimeUnit::Nanoseconds)),
         _ => FileHeader::Refused(Refusal::WrongMark),
+    }
+}
+
+// The reading decides the byte order, and the magic alone the unit.
+fn format_by(reading: Reading, least_first: bool, unit: TimeUnit) -> RecordFormat
+    ensures { λ r. ⌜ r ≡ formatBy reading «least_first» unit ⌝ }
+{
+    RecordFormat {
+        big_endian: is_big_endian(reading, least_first),
+        unit,
     }
 }
 
@@ -54,8 +73,8 @@ fn is_big_endian(reading: Reading, least_first: bool) -> bool
     }
 }
 
-pub fn record_at(data: &[u8], at: usize, big_endian: bool) -> Recorded
-    ensures { λ r. ⌜ r ≡ recordedAt «big_endian» (now («data» .entry)) at ⌝ }
+pub fn record_at(data: &[u8], at: usize, format: RecordFormat) -> Recorded
+    ensures { λ r. ⌜ r ≡ recordedAt format (now («data» .entry)) at ⌝ }
 {
     if data.len() < RECORD_HEADER_LEN {
         return Recorded::PastEnd;
@@ -64,7 +83,7 @@ pub fn record_at(data: &[u8], at: usize, big_endian: bool) -> Recorded
         return Recorded::PastEnd;
     }
     let body = at + RECORD_HEADER_LEN;
-    let len = u32_at(data, at + 8, big_endian) as usize;
+    let len = u32_at(data, at + 8, format.big_endian) as usize;
     if data.len() - body < len {
         return Recorded::PastEnd;
     }
@@ -72,7 +91,21 @@ pub fn record_at(data: &[u8], at: usize, big_endian: bool) -> Recorded
         header: at,
         body,
         len,
+        time: time_at(data, at, format),
     })
+}
+
+// The time that the record header at a place states.
+fn time_at(data: &[u8], at: usize, format: RecordFormat) -> Timestamp
+    requires { ⌜ at + 16 ≤ length (now «data») ⌝ }
+    ensures { λ r. ⌜ r ≡ timeAt format (now («data» .entry)) at ⌝ }
+{
+    let unit = format.unit;
+    Timestamp {
+        seconds: u32_at(data, at, format.big_endian),
+        fraction: u32_at(data, at + 4, format.big_endian),
+        unit,
+    }
 }
 
 // The header was tested, so that the number is not missing.

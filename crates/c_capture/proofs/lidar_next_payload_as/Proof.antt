@@ -10,7 +10,7 @@ tell-next-requires : tie.Need-tell-next-requires
 tell-next-requires c κs = search needs
 
 returns : tie.Need-returns
-returns c = rw (c .before .before .before .before .reading-of .ensures) at (c .tell-next .ensures)
+returns c = rw (c .before .before .before .before .before .before .before .reading-of .ensures) at (c .tell-next .ensures)
 
 pub lidar-next-payload-as-spec : {M : Type 1} → statement M
 lidar-next-payload-as-spec = tie.close (tie.spec reading-of-requires tell-next-requires returns)

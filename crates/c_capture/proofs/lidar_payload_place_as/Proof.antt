@@ -10,7 +10,7 @@ tell-place-requires : tie.Need-tell-place-requires
 tell-place-requires c κs = search needs
 
 returns : tie.Need-returns
-returns c = rw (c .before .before .before .reading-of .ensures) at (c .tell-place .ensures)
+returns c = rw (c .before .before .before .before .before .before .reading-of .ensures) at (c .tell-place .ensures)
 
 pub lidar-payload-place-as-spec : {M : Type 1} → statement M
 lidar-payload-place-as-spec = tie.close (tie.spec reading-of-requires tell-place-requires returns)

@@ -10,7 +10,7 @@ payload-as-requires : tie.Need-payload-as-requires
 payload-as-requires c κs = search needs
 
 returns : tie.Need-returns
-returns c = rw (c .before .usual .ensures) at (c .payload-as .ensures)
+returns c = rw (c .before .before .before .before .usual .ensures) at (c .payload-as .ensures)
 
 pub payload-spec : {M : Type 1} → statement M
 payload-spec = tie.close (tie.spec usual-requires payload-as-requires returns)

@@ -32,8 +32,11 @@ sub-if3 c = search needs
 returns-3 : tie.Need-returns-3
 returns-3 c = past-end _ _ _ (omega arith)
 
+time-at-requires : tie.Need-time-at-requires
+time-at-requires c κs = search needs
+
 returns-4 : tie.Need-returns-4
-returns-4 c = rw (c .before .u32-at .ensures) (whole _ _ _ (omega arith))
+returns-4 c = rw (c .before .before .u32-at .ensures, c .time-at .ensures) (whole _ _ _ (omega arith))
 
 pub record-at-spec : {M : Type 1} → statement M
 record-at-spec =
@@ -48,4 +51,5 @@ record-at-spec =
     cast-len
     sub-if3
     returns-3
+    time-at-requires
     returns-4)

@@ -11,7 +11,7 @@ use Rattle.record_rule.specs.declared.rule.Start.{Start}
 use Rattle.record_rule.specs.Captured.{recordEnd}
 use Rattle.record_rule.specs.Record.{startOf, verdict}
 use Rattle.record_rule.proofs.Inside.{Inside}
-use Rattle.savefile.specs.Savefile.{recordAt, orderOf}
+use Rattle.savefile.specs.Savefile.{recordAt}
 use Rattle.savefile.proofs.Records.{is-past, is-whole}
 use Rattle.capture.specs.declared.walk.Cursor.{Cursor}
 use Rattle.capture.specs.Payloads.{yieldAt, yieldsFrom, yieldsAfter, stepTo, stepOf}
@@ -20,18 +20,18 @@ use Rattle.capture.proofs.walk.Cursor.step.Statement.{statement}
 use Rattle.capture.proofs.walk.Cursor.step.Tie as tie
 
 abbrev Inv-loop : tie.InvT-loop
-Inv-loop self «data» port reading big-endian at₀ at = yieldsFrom reading big-endian port «data» at₀ ≡ yieldsFrom reading big-endian port «data» at
+Inv-loop self «data» port reading format at₀ at = yieldsFrom reading format port «data» at₀ ≡ yieldsFrom reading format port «data» at
 
 abbrev μ-loop : tie.MeasureT-loop
-μ-loop self «data» port reading big-endian at₀ at = length «data» - at
+μ-loop self «data» port reading format at₀ at = length «data» - at
 
 -- the record at the place reached
 module _ (c : tie.After-known-told Inv-loop μ-loop) where
   abbrev self : Cursor
-  self = c .before .before .before .before .before .before .args .self
+  self = c .before .before .before .before .before .before .before .args .self
 
   abbrev bytes : List ℕ
-  bytes = c .before .before .before .before .before .before .args .«data» .now
+  bytes = c .before .before .before .before .before .before .before .args .«data» .now
 
   abbrev at : ℕ
   at = c .before .before .before .before .loop .at
@@ -39,15 +39,15 @@ module _ (c : tie.After-known-told Inv-loop μ-loop) where
   abbrev here : Record
   here = c .before .«record» .given .0 .0
 
-  there : (here ≡ recordAt (orderOf (self .«big_endian»)) bytes at) × Inside bytes here
+  there : (here ≡ recordAt (self .format) bytes at) × Inside bytes here
   there = is-whole _ _ _ _ (sym (c .before .before .before .record-at .ensures) ∙ c .before .«record» .given .1)
 
   on : at < recordEnd here
-  on = further (self .reading) (self .«big_endian») (self .port) bytes at here (there .0) (there .1)
+  on = further (self .reading) (self .format) (self .port) bytes at here (there .0) (there .1)
 
   yielded : (s : Start) → startOf (verdict (self .reading) (self .port) (take (recordEnd here - here .body) (drop (here .body) bytes))) ≡ s
-      → yieldsAfter self bytes ≡ yieldAt here s ++ yieldsFrom (self .reading) (self .«big_endian») (self .port) bytes (recordEnd here)
-  yielded s rule = c .before .before .before .before .loop .inv ∙ at-record (self .reading) (self .«big_endian») (self .port) bytes at here (there .0) (there .1) s rule
+      → yieldsAfter self bytes ≡ yieldAt here s ++ yieldsFrom (self .reading) (self .format) (self .port) bytes (recordEnd here)
+  yielded s rule = c .before .before .before .before .loop .inv ∙ at-record (self .reading) (self .format) (self .port) bytes at here (there .0) (there .1) s rule
 
 -- what the rule says of it
 rule : (c : tie.After-start Inv-loop μ-loop) → let k = c .before .before .before .before in
@@ -69,9 +69,9 @@ enum-told c = search needs
 returns : tie.Need-returns Inv-loop μ-loop
 unfolding stepOf
 returns c =
-    let a = c .before .before .before .before .before .args in
-    let end = is-past (a .self .«big_endian») (a .«data» .now) (c .before .before .before .loop .at) (sym (c .before .before .record-at .ensures) ∙ c .enum-told .given .1) in
-    sym (ap (stepTo (a .self)) (c .before .before .before .loop .inv ∙ at-end (a .self .reading) (a .self .«big_endian») (a .self .port) (a .«data» .now) (c .before .before .before .loop .at) end))
+    let a = c .before .before .before .before .before .before .args in
+    let end = is-past (a .self .format) (a .«data» .now) (c .before .before .before .loop .at) (sym (c .before .before .record-at .ensures) ∙ c .enum-told .given .1) in
+    sym (ap (stepTo (a .self)) (c .before .before .before .loop .inv ∙ at-end (a .self .reading) (a .self .format) (a .self .port) (a .«data» .now) (c .before .before .before .loop .at) end))
 
 add-end : tie.Need-add-end Inv-loop μ-loop
 add-end c = omega (arith, there (c .before) .1)
@@ -97,7 +97,7 @@ enum-known-start c = search needs
 place-in-requires : tie.Need-place-in-requires Inv-loop μ-loop
 place-in-requires c κs =
     let k = c .before .before .before .before .before .before .before in
-    omega (arith, there k .1, in-record (self k .reading) (self k .«big_endian») (self k .port) (bytes k) (at k) (here k) (there k .0) (there k .1) _ _ (rule (c .before .before .before) ∙ c .before .start2 .given .1) .0)
+    omega (arith, there k .1, in-record (self k .reading) (self k .format) (self k .port) (bytes k) (at k) (here k) (there k .0) (there k .1) _ _ (rule (c .before .before .before) ∙ c .before .start2 .given .1) .0)
 
 moved-to-requires : tie.Need-moved-to-requires Inv-loop μ-loop
 moved-to-requires c κs = search needs
