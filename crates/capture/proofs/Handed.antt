@@ -19,40 +19,51 @@ use Rattle.record_rule.specs.declared.rule.Start.{Start}
 use Rattle.record_rule.specs.declared.rule.Start.the-variants.{At, Nothing}
 use Rattle.record_rule.specs.Captured.{recordBytes}
 use Rattle.record_rule.specs.Record.{verdict, startOf}
-use Rattle.record_rule.proofs.Inside.{Inside, AllInside, inside-length}
+use Rattle.record_rule.proofs.Inside.{Inside, AllInside, Among, inside-of, inside-length}
 use Rattle.record_rule.proofs.Tests.{payload-inside}
 use Rattle.savefile.specs.Savefile.{allRecordsFrom, formatOf, checks}
 use Rattle.savefile.proofs.Records.{records-inside}
 use Rattle.capture.specs.declared.walk.Cursor.{Cursor}
 use Rattle.capture.specs.declared.walk.Place.{Place}
 use Rattle.capture.specs.declared.walk.Step.the-variants.{Payload}
-use Rattle.capture.specs.Payloads.{Yield, yieldAt, yieldOf, yieldsIn, yieldsFrom, placesOf, payloads, nowhere, handedAs, placeOf, bytesAt, yieldsAfter, stepTo, stepOf}
+use Rattle.capture.specs.Payloads.{placeIn, Yield, yieldAt, yieldOf, yieldsIn, yieldsFrom, placesOf, payloads, nowhere, handedAs, placeOf, bytesAt, yieldsAfter, stepTo, stepOf}
 
 pub record Within (bytes : List ℕ) (p : Place) : Type 0 where
   pub inside : p .start + p .len ≤ length bytes
   pub some : 0 < p .len
 
-abbrev pub AllWithin : List ℕ → List Place → Type 0
-AllWithin bytes [] = Unit
-AllWithin bytes (p ∷ places) = Within bytes p × AllWithin bytes places
+-- Each of some places has a property.
+abbrev pub AllOf : (Place → Type 0) → List Place → Type 0
+AllOf P [] = Unit
+AllOf P (p ∷ places) = P p × AllOf P places
 
-at-rank : (bytes : List ℕ) (places : List Place) (rank : ℕ) → AllWithin bytes places → rank < length places → Within bytes (getD places rank nowhere)
-at-rank bytes [] rank a h = absurd (omega arith)
-at-rank bytes (p ∷ places) zero a h = a .0
-at-rank bytes (p ∷ places) (suc rank) a h = at-rank bytes places rank (a .1) (omega arith)
+at-rank : (P : Place → Type 0) (places : List Place) (rank : ℕ) → AllOf P places → rank < length places → P (getD places rank nowhere)
+at-rank P [] rank a h = absurd (omega arith)
+at-rank P (p ∷ places) zero a h = a .0
+at-rank P (p ∷ places) (suc rank) a h = at-rank P places rank (a .1) (omega arith)
 
 -- ---- of any records inside the data
-with-one : (bytes : List ℕ) (r : Record) (s : Start) (later : List Yield) → Inside bytes r → ((start len : ℕ) → s ≡ At start len → (start + len ≤ r .len) × (0 < len)) → AllWithin bytes (placesOf later)
-    → AllWithin bytes (placesOf (yieldAt r s ++ later))
-with-one bytes r Nothing later i k a = a
-with-one bytes r (At start len) later i k a = let b = k start len refl in (record { inside = omega arith; some = b .1 }, a)
+with-one : (P : Place → Type 0) (r : Record) (s : Start) (later : List Yield) → ((start len : ℕ) → s ≡ At start len → P (placeIn r start len)) → AllOf P (placesOf later)
+    → AllOf P (placesOf (yieldAt r s ++ later))
+with-one P r Nothing later k a = a
+with-one P r (At start len) later k a = (k start len refl, a)
 
-pub all-within : (reading : Reading) (port : ℕ) (bytes : List ℕ) (records : List Record) → AllInside bytes records → AllWithin bytes (placesOf (yieldsIn reading port bytes records))
-unfolding flatMap yieldOf
-all-within reading port bytes [] i = tt
-all-within reading port bytes (r ∷ records) i =
-    with-one bytes r (startOf (verdict reading port (recordBytes bytes r))) (yieldsIn reading port bytes records) (i .0)
-    (λ start len e. rw (inside-length bytes r (i .0)) at (payload-inside reading port (recordBytes bytes r) start len e)) (all-within reading port bytes records (i .1))
+module _ (reading : Reading) (port : ℕ) (bytes : List ℕ) where
+  -- A property that each payload has by the record that yields it.
+  pub all-of : (P : Place → Type 0) (records : List Record)
+      → ((r : Record) → Among r records → (start len : ℕ) → startOf (verdict reading port (recordBytes bytes r)) ≡ At start len → P (placeIn r start len))
+      → AllOf P (placesOf (yieldsIn reading port bytes records))
+  unfolding flatMap yieldOf
+  all-of P [] k = tt
+  all-of P (r ∷ records) k =
+      with-one P r (startOf (verdict reading port (recordBytes bytes r))) (yieldsIn reading port bytes records) (k r (inl refl)) (all-of P records (λ x m. k x (inr m)))
+
+  -- What a record yields lies in its captured bytes.
+  pub yielded-inside : (r : Record) (start len : ℕ) → Inside bytes r → startOf (verdict reading port (recordBytes bytes r)) ≡ At start len → (start + len ≤ r .len) × (0 < len)
+  yielded-inside r start len i e = rw (inside-length bytes r i) at (payload-inside reading port (recordBytes bytes r) start len e)
+
+  pub all-within : (records : List Record) → AllInside bytes records → AllOf (Within bytes) (placesOf (yieldsIn reading port bytes records))
+  all-within records i = all-of (Within bytes) records (λ r m start len e. let h = inside-of bytes records r i m in let k = yielded-inside r start len h e in record { inside = omega arith; some = k .1 })
 
 -- The number is what the checks give: 0 accepts, and any other refuses.
 module _ (number : ℕ) (places : List Place) (rank : ℕ) where
@@ -71,13 +82,13 @@ module _ (number : ℕ) (places : List Place) (rank : ℕ) where
       either true = refl
       either false = refl
 
-  none-or-within : (bytes : List ℕ) → AllWithin bytes places → NoneOfRank ⊎ Within bytes (handedAs number places rank)
-  none-or-within bytes all =
+  pub none-or-one : (P : Place → Type 0) → AllOf P places → NoneOfRank ⊎ P (handedAs number places rank)
+  none-or-one P all =
       elim (ℕ-discrete number 0) [
         | yes a ↦
             elim (decLe (length places) rank) [
               | yes h ↦ inl (inr h)
-              | no h ↦ inr (rw (accepted a) (at-rank bytes places rank all (lt-of-not-le h)))
+              | no h ↦ inr (rw (accepted a) (at-rank P places rank all (lt-of-not-le h)))
             ]
         | no n ↦ inl (inl n)
       ]
@@ -87,7 +98,7 @@ module _ (reading : Reading) (port number rank : ℕ) (bytes : List ℕ) (record
   places = placesOf (yieldsIn reading port bytes records)
 
   which : NoneOfRank number places rank ⊎ Within bytes (handedAs number places rank)
-  which = none-or-within number places rank bytes (all-within reading port bytes records inside)
+  which = none-or-one number places rank (Within bytes) (all-within reading port bytes records inside)
 
   pub place-inside : handedAs number places rank .start + handedAs number places rank .len ≤ length bytes
   place-inside =
@@ -129,15 +140,18 @@ module _ (reading : Reading) (port rank : ℕ) (bytes : List ℕ) where
   unfolding placeOf payloads yieldsFrom
   part-empty-only-if = empty-only-if reading port number rank bytes records lie-inside
 
--- The payload of a step lies inside, too.
-pub step-within : (c : Cursor) (bytes : List ℕ) (p : Place) (next : Cursor) → stepOf c bytes ≡ Payload p next → Within bytes p
-unfolding stepOf yieldsFrom
-step-within c bytes p next e =
-    go (yieldsAfter c bytes) (all-within (c .reading) (c .port) bytes (allRecordsFrom (c .format) bytes (c .at)) (records-inside (c .format) bytes (length bytes) (c .at))) e
+-- ---- of a step
+pub of-step : (P : Place → Type 0) (c : Cursor) (bytes : List ℕ) (p : Place) (next : Cursor) → AllOf P (placesOf (yieldsAfter c bytes)) → stepOf c bytes ≡ Payload p next → P p
+unfolding stepOf
+of-step P c bytes p next all e = go (yieldsAfter c bytes) all e
   where
-    go : (l : List Yield) → AllWithin bytes (placesOf l) → stepTo c l ≡ Payload p next → Within bytes p
+    go : (l : List Yield) → AllOf P (placesOf l) → stepTo c l ≡ Payload p next → P p
     go [] a q = let never : _≡_ {A = ℕ} 0 1 = cc in absurd (omega arith)
-    go (y ∷ l) a q = let is : y .place ≡ p = cc in subst (Within bytes) is (a .0)
+    go (y ∷ l) a q = let is : y .place ≡ p = cc in subst P is (a .0)
+
+pub step-within : (c : Cursor) (bytes : List ℕ) (p : Place) (next : Cursor) → stepOf c bytes ≡ Payload p next → Within bytes p
+unfolding yieldsFrom
+step-within c bytes p next = of-step (Within bytes) c bytes p next (all-within (c .reading) (c .port) bytes (allRecordsFrom (c .format) bytes (c .at)) (records-inside (c .format) bytes (length bytes) (c .at)))
 
 -- Code lends the bytes at a place.
 pub part-lent : (bytes : List ℕ) (p : Place) → take (p .start + p .len - p .start) (drop (p .start) bytes) ≡ bytesAt bytes p

@@ -4,4 +4,5 @@ pub mod Joined
 pub mod Opening
 pub mod Records
 pub mod Steps
+pub mod Times
 pub mod Walking

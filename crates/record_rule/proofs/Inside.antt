@@ -2,6 +2,7 @@
 use Prim.Native.Nat.{ℕ, _≤_}
 use native.Mathlib.Omega.{arith}
 use mathlib.Core.Path.{_≡_}
+use mathlib.Core.Logic.{_⊎_, inl, inr}
 use mathlib.Core.List.{List, [], _∷_}
 use lib.ListN.{length, length-take, length-drop}
 use Rattle.record_rule.specs.declared.Record.{Record}
@@ -13,6 +14,16 @@ Inside bytes r = recordEnd r ≤ length bytes
 abbrev pub AllInside : List ℕ → List Record → Type 0
 AllInside bytes [] = Unit
 AllInside bytes (r ∷ records) = Inside bytes r × AllInside bytes records
+
+-- A record is one of some.
+abbrev pub Among : Record → List Record → Type 0
+Among r [] = ⊥
+Among r (first ∷ records) = (r ≡ first) ⊎ Among r records
+
+pub inside-of : (bytes : List ℕ) (records : List Record) (r : Record) → AllInside bytes records → Among r records → Inside bytes r
+inside-of bytes [] r i m = absurd m
+inside-of bytes (first ∷ records) r i (inl e) = rw e (i .0)
+inside-of bytes (first ∷ records) r i (inr m) = inside-of bytes records r (i .1) m
 
 -- Such a record has as many bytes as it says.
 pub inside-length : (bytes : List ℕ) (r : Record) → Inside bytes r → length (recordBytes bytes r) ≡ r .len

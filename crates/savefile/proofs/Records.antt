@@ -1,18 +1,19 @@
--- Laws of the records: the bound on their number is not felt, after a record that is there come the others, each lies inside the data, and code's test of a
--- record. Assumes nothing.
+-- Laws of the records: the bound on their number is not felt, after a record that is there come the others, each lies inside the data and is the one that its
+-- header states, and code's test of a record. Assumes nothing.
 use Prim.Native.Nat.{ℕ, zero, suc, _+_, _≤_, _<_}
 use native.Mathlib.Nat.{lt-of-not-le}
 use native.Mathlib.Decide.{decLe}
 use native.Mathlib.Omega.{arith}
 use mathlib.Core.Path.{_≡_, refl, sym, ap, _∙_, subst}
 use mathlib.Core.Bool.{cond}
+use mathlib.Core.Logic.{inl, inr}
 use mathlib.Core.List.{List, [], _∷_}
 use lib.Dec.{leb}
 use lib.ListN.{length}
 use borrow.Author.Tests.{le-leb, lt-leb}
 use Rattle.record_rule.specs.declared.Record.{Record}
 use Rattle.record_rule.specs.Captured.{recordEnd}
-use Rattle.record_rule.proofs.Inside.{Inside, AllInside}
+use Rattle.record_rule.proofs.Inside.{Inside, AllInside, Among}
 use Rattle.savefile.specs.declared.RecordFormat.{RecordFormat}
 use Rattle.savefile.specs.declared.Recorded.the-variants.{Whole, PastEnd}
 use Rattle.savefile.specs.Savefile.{recordAt, recordsFrom}
@@ -53,6 +54,20 @@ module _ (format : RecordFormat) (bytes : List ℕ) where
       elim (decLe (recordEnd (recordAt format bytes at)) (length bytes)) [
         | yes h ↦ subst (AllInside bytes) (sym (one-more bound at h)) (h, records-inside bound (recordEnd (recordAt format bytes at)))
         | no h ↦ subst (AllInside bytes) (sym (past (suc bound) at (lt-of-not-le h))) tt
+      ]
+
+  -- Each is the one that its own header states.
+  pub stated : (bound at : ℕ) (r : Record) → Among r (recordsFrom bound format bytes at) → r ≡ recordAt format bytes (r .header)
+  unfolding recordsFrom
+  stated zero at r m = absurd m
+  stated (suc bound) at r m =
+      elim (decLe (recordEnd (recordAt format bytes at)) (length bytes)) [
+        | yes h ↦
+            elim (subst (Among r) (one-more bound at h) m) [
+              | inl e ↦ rw e
+              | inr k ↦ stated bound (recordEnd (recordAt format bytes at)) r k
+            ]
+        | no h ↦ absurd (subst (Among r) (past (suc bound) at (lt-of-not-le h)) m)
       ]
 
   pub few-records : (bound at : ℕ) → length (recordsFrom bound format bytes at) ≤ bound
