@@ -3,6 +3,7 @@
 
 tshark's answer for a frame is the payload of its UDP datagram, as far as the UDP length says. The paper's readings differ from it by rules of their own,
 each with a name here. A frame whose answer changes by a rule is listed in differences.txt; a frame whose answers differ by no rule is an error.
+The time is tshark's, and the unit is the precision that capinfos tells. No rule changes them.
 """
 import itertools
 import os
@@ -17,6 +18,9 @@ DATA = os.path.join(HERE, "..", "data")
 LITTLE = ("d4c3b2a1", "4d3cb2a1")
 BIG = ("a1b2c3d4", "a1b23c4d")
 
+# What capinfos calls a file's precision: the unit's word here, and its nanoseconds.
+UNITS = {"microseconds (6)": ("us", 1000), "nanoseconds (9)": ("ns", 1)}
+
 
 class Frame:
     """A frame as tshark reads it: its layers from the outside in, each with its place in the frame."""
@@ -26,6 +30,7 @@ class Frame:
         self.names = [p.get("name") for p in self.layers]
         self.number = int(packet.find("proto/field[@name='num']").get("show"))
         self.length = int(packet.find("proto/field[@name='caplen']").get("show"))
+        self.epoch = packet.find("proto/field[@name='frame.time_epoch']").get("show")
 
     def field(self, layer, name):
         return self.layers[layer].find(f".//field[@name='{name}']")
@@ -50,6 +55,23 @@ def frames_of(path):
     if "</pdml>" not in out:
         out = (out[:out.rfind("</packet>") + len("</packet>")] if "</packet>" in out else "<pdml>") + "</pdml>"
     return [Frame(p) for p in xml.fromstring(out).findall("packet")]
+
+
+def unit_of(path):
+    said = subprocess.run(["capinfos", path], capture_output=True, text=True).stdout
+    told = [line.partition(":")[2].strip() for line in said.splitlines() if line.startswith("File timestamp precision:")]
+    if len(told) != 1 or told[0] not in UNITS:
+        sys.exit(f"{path}: capinfos tells no precision that is known here: {told}")
+    return UNITS[told[0]]
+
+
+def time_in(unit, epoch):
+    """Seconds, fraction and unit, from tshark's seconds with nine digits after the point."""
+    word, nanoseconds = unit
+    seconds, digits = epoch.split(".")
+    if len(digits) != 9 or int(digits) % nanoseconds:
+        sys.exit(f"{epoch} is no time in {word}")
+    return f"{int(seconds)} {int(digits) // nanoseconds} {word}"
 
 
 def judged(frame, data, reading):
@@ -97,11 +119,12 @@ def as_read(data, reading):
 
 
 def payloads(data, reading):
-    """For each record the frame's number, its payload with its start in the file and its port, or none, and the rule."""
+    """For each record the frame, its payload with its start in the file, its port and its time, or none, and the rule."""
     with tempfile.NamedTemporaryFile(suffix=".pcap") as copy:
         copy.write(as_read(data, reading))
         copy.flush()
         frames = frames_of(copy.name)
+        unit = unit_of(copy.name) if frames else None
     at = 24
     for frame in frames:
         record = data[at + 16:at + 16 + frame.length]
@@ -109,7 +132,7 @@ def payloads(data, reading):
         if found:
             start, told = found
             port = int.from_bytes(record[start - 6:start - 4], "big")
-            found = (at + 16 + start, told, port)
+            found = (at + 16 + start, told, port, time_in(unit, frame.epoch))
         yield frame, found, rule
         at += 16 + frame.length
 
@@ -141,27 +164,27 @@ def main():
         path = os.path.join(DATA, name)
         with open(path, "rb") as f:
             data = f.read()
-        own = [(frame.number, frame.own()) for frame in frames_of(path)]
+        own = [(frame.number, frame.epoch, frame.own()) for frame in frames_of(path)]
         if refusal(data):
             lines.append(f"{name} refused {refusal(data)}")
-            differences.append(f"{name}: the magic is none of the four: tshark {sum(1 for _, p in own if p)} payloads, here refused {refusal(data)}")
+            differences.append(f"{name}: the magic is none of the four: tshark {sum(1 for _, _, p in own if p)} payloads, here refused {refusal(data)}")
             continue
         savefile = list(payloads(data, "savefile"))
         rust = list(payloads(data, "rust"))
         found = [f for _, f, _ in savefile if f]
-        on_port = sum(1 for _, _, port in found if port == 2368)
+        on_port = sum(1 for _, _, port, _ in found if port == 2368)
         lines.append(f"{name} payloads {len(found)} on 2368 {on_port} rust {sum(1 for _, f, _ in rust if f)}")
-        for rank, (start, told, _) in enumerate(found):
-            lines.append(f"{name} {rank} {start} {len(told)} {told.hex()}")
+        for rank, (start, told, _, time) in enumerate(found):
+            lines.append(f"{name} {rank} {start} {len(told)} {time} {told.hex()}")
         lines.append(f"{name} {len(found)} none")
         if libpcap_refuses(path):
             differences.append(f"{name}: the version is not looked at: {libpcap_refuses(path)}, here {len(found)} payloads")
         for frame, f, _ in savefile:
             if frame.length > snap_length(data):
                 differences.append(f"{name} {frame.number}: the snap length is not looked at: libpcap cuts the record to {snap_length(data)} bytes, here {frame.length}")
-        if own != [(frame.number, frame.own()) for frame, _, _ in savefile]:
-            told = [p for _, p in own if p]
-            differences.append(f"{name}: neither the version nor the link type is looked at: tshark {[p.hex() for p in told]}, here {[t.hex() for _, t, _ in found]}")
+        if own != [(frame.number, frame.epoch, frame.own()) for frame, _, _ in savefile]:
+            told = [p for _, _, p in own if p]
+            differences.append(f"{name}: neither the version nor the link type is looked at: tshark {[p.hex() for p in told]}, here {[t.hex() for _, t, _, _ in found]}")
         else:
             differences += [f"{name} {frame.number}: {rule}: tshark {tell(frame.own())}, here {tell(f and f[1])}" for frame, f, rule in savefile if rule]
         differences += [f"{name} {frame.number}: {rule}: tshark {tell(frame.own())}, the Rust's reading {tell(f and f[1])}" for frame, f, rule in rust if rule and rule.startswith("every IHL")]
