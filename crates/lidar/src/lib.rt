@@ -1,10 +1,13 @@
-// What others use: the calls of 01, from the crates that hold them.
+// What others use: the calls of 01 and 02, from the crates that hold them.
 
 pub use capture::Cursor;
 pub use capture::Opened;
 pub use capture::Place;
 pub use capture::Reading;
+pub use capture::RecordFormat;
 pub use capture::Step;
+pub use capture::TimeUnit;
+pub use capture::Timestamp;
 pub use capture::open;
 pub use capture::open_as;
 pub use kitti::read_kitti;

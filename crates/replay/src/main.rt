@@ -4,6 +4,7 @@ use capture::Cursor;
 use capture::Opened;
 use capture::Reading;
 use capture::Step;
+use capture::TimeUnit;
 use input::Ended;
 use libc::STDOUT_FILENO;
 
@@ -98,8 +99,8 @@ fn count(data: &[u8], reading: Reading, port: u16) -> usize {
     met
 }
 
-// A line for each payload: its rank, then its start and length as the step tells them, then its bytes as the call by rank hands them back. Last, the rank
-// after them all.
+// A line for each payload: its rank, then its start and length as the step tells them, then its time and its bytes as the call by rank hands them back. Last,
+// the rank after them all.
 fn show_payloads(name: &[u8], data: &[u8], first: Cursor) {
     let mut cursor = first;
     let mut rank: usize = 0;
@@ -121,14 +122,36 @@ fn show_payloads(name: &[u8], data: &[u8], first: Cursor) {
 }
 
 fn show_rank(data: &[u8], rank: usize) {
-    let payload = payloads::payload_as(data, Reading::Savefile, 0, rank);
+    let mut seconds: u32 = 0;
+    let mut fraction: u32 = 0;
+    let mut unit: u8 = 0;
+    let payload = payloads::payload_as(
+        data,
+        Reading::Savefile,
+        0,
+        rank,
+        &mut seconds,
+        &mut fraction,
+        &mut unit,
+    );
     if payload.len() == 0 {
         write(b" none\n");
         return;
     }
-    write(b" ");
+    write_number(seconds as usize);
+    write_number(fraction as usize);
+    write_unit(unit);
     write_hex(payload);
     write(b"\n");
+}
+
+fn write_unit(unit: u8) {
+    let nanoseconds = TimeUnit::Nanoseconds;
+    if unit == nanoseconds.number() {
+        write(b" ns ");
+    } else {
+        write(b" us ");
+    }
 }
 
 fn write(text: &[u8]) -> bool {

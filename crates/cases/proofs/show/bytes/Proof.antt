@@ -1,20 +1,14 @@
--- `show::payload` is safe and ends. Assumes nothing.
+-- `show::bytes` is safe and ends. Assumes nothing.
 use Prim.Native.Nat.{_-_}
 use borrow.Author.Needs.{needs}
-use Rattle.cases.proofs.show.payload.Statement.{statement}
-use Rattle.cases.proofs.show.payload.Tie as tie
+use Rattle.cases.proofs.show.bytes.Statement.{statement}
+use Rattle.cases.proofs.show.bytes.Tie as tie
 
 abbrev Inv-loop : tie.InvT-loop
-Inv-loop start payload i₀ i-end i = Unit
+Inv-loop payload i₀ i-end i = Unit
 
 abbrev μ-loop : tie.MeasureT-loop
-μ-loop start payload i₀ i-end i = i-end - i
-
-write-number-requires : tie.Need-write-number-requires Inv-loop μ-loop
-write-number-requires c κs = search needs
-
-write-number-requires-2 : tie.Need-write-number-requires-2 Inv-loop μ-loop
-write-number-requires-2 c κs = search needs
+μ-loop payload i₀ i-end i = i-end - i
 
 slice-aggregate-write : tie.Need-slice-aggregate-write Inv-loop μ-loop
 slice-aggregate-write c = search needs
@@ -49,14 +43,12 @@ loop-again c = search needs
 returns : tie.Need-returns Inv-loop μ-loop
 returns c = search needs
 
-pub payload-spec : {M : Type 1} → statement M
-payload-spec =
+pub bytes-spec : {M : Type 1} → statement M
+bytes-spec =
     tie.close
     (tie.spec
     Inv-loop
     μ-loop
-    write-number-requires
-    write-number-requires-2
     slice-aggregate-write
     write-requires
     loop-holds
