@@ -1,14 +1,15 @@
 //! The UDP payloads of libpcap captures.
 
-use crate::{ffi, Refusal};
+use crate::ffi::{self, Place};
+use crate::{Refusal, TimeUnit, Timestamp};
 use std::iter::FusedIterator;
 
 /// How a capture's bytes are read.
 #[derive(Clone, Copy, Debug, PartialEq, Eq, Hash)]
 #[non_exhaustive]
 pub enum Reading {
-    /// As threecrate's lidar.rs: first bytes `d4 c3 b2 a1` mean big-endian lengths, the other way round
-    /// from what capture tools write.
+    /// As threecrate's lidar.rs: first bytes `d4 c3 b2 a1` mean big-endian lengths and times, the other way
+    /// round from what capture tools write.
     Rust,
     /// As the libpcap savefile format says. It takes what capture tools write.
     Savefile,
@@ -20,22 +21,46 @@ impl Reading {
     }
 }
 
-/// The payload of a rank, counted from 0 among the payloads on a port, as that part of the capture. Port
-/// 0 asks for every port. `None` where there is no payload of that rank.
+/// A payload, and when its record was captured.
+#[derive(Clone, Copy, Debug, PartialEq, Eq, Hash)]
+pub struct Payload<'a> {
+    /// That part of the capture, at least a byte.
+    pub bytes: &'a [u8],
+    /// As its record states it.
+    pub time: Timestamp,
+}
+
+impl<'a> Payload<'a> {
+    fn at(place: Place, data: &'a [u8]) -> Payload<'a> {
+        Payload {
+            bytes: &data[place.start..place.start + place.len],
+            time: Timestamp {
+                seconds: place.seconds,
+                fraction: place.fraction,
+                unit: TimeUnit::told(place.unit),
+            },
+        }
+    }
+}
+
+/// The payload of a rank, counted from 0 among the payloads on a port. Port 0 asks for every port. `None`
+/// where there is no payload of that rank.
 ///
 /// It walks to that payload from the start; [`payloads`] goes through all of them once.
-pub fn payload(data: &[u8], port: u16, rank: usize) -> Result<Option<&[u8]>, Refusal> {
-    part(data, ffi::payload_place(data, None, port, rank))
+pub fn payload(data: &[u8], port: u16, rank: usize) -> Result<Option<Payload<'_>>, Refusal> {
+    of_rank(data, None, port, rank)
 }
 
 /// [`payload`] in a reading that is named.
 ///
 /// ```
 /// use lidar::Reading;
+/// use std::time::Duration;
 ///
 /// let capture = std::fs::read("../../samples/hall_ouster.pcap")?;
-/// let packet = lidar::payload_as(&capture, Reading::Savefile, 7502, 1)?;
-/// assert_eq!(packet.map(<[u8]>::len), Some(12608));
+/// let packet = lidar::payload_as(&capture, Reading::Savefile, 7502, 1)?.unwrap();
+/// assert_eq!(packet.bytes.len(), 12608);
+/// assert_eq!(packet.time.since_epoch()?, Duration::from_millis(1_700_000_000_001));
 /// assert_eq!(lidar::payload_as(&capture, Reading::Savefile, 7502, 2)?, None);
 /// # Ok::<(), Box<dyn std::error::Error>>(())
 /// ```
@@ -44,19 +69,24 @@ pub fn payload_as(
     reading: Reading,
     port: u16,
     rank: usize,
-) -> Result<Option<&[u8]>, Refusal> {
-    let savefile = Some(reading.is_savefile());
-    part(data, ffi::payload_place(data, savefile, port, rank))
+) -> Result<Option<Payload<'_>>, Refusal> {
+    of_rank(data, Some(reading.is_savefile()), port, rank)
 }
 
-fn part(data: &[u8], place: (u8, usize, usize)) -> Result<Option<&[u8]>, Refusal> {
-    let (number, start, len) = place;
+fn of_rank(
+    data: &[u8],
+    savefile: Option<bool>,
+    port: u16,
+    rank: usize,
+) -> Result<Option<Payload<'_>>, Refusal> {
+    let mut place = Place::default();
+    let number = ffi::payload_place(data, savefile, port, rank, &mut place);
     Refusal::told(number, 0)?;
-    Ok((len > 0).then(|| &data[start..start + len]))
+    Ok((place.len > 0).then(|| Payload::at(place, data)))
 }
 
-/// Goes through the payloads on a port, each as that part of the capture, in the usual reading. Port 0
-/// asks for every port.
+/// Goes through the payloads on a port, each with its time, in the usual reading. Port 0 asks for every
+/// port.
 pub fn payloads(data: &[u8], port: u16) -> Result<Payloads<'_>, Refusal> {
     payload(data, port, 0)?;
     Ok(Payloads {
@@ -70,11 +100,17 @@ pub fn payloads(data: &[u8], port: u16) -> Result<Payloads<'_>, Refusal> {
 /// [`payloads`] in a reading that is named.
 ///
 /// ```
-/// use lidar::Reading;
+/// use lidar::{Payload, Reading, TimeUnit};
 ///
 /// let capture = std::fs::read("../../samples/hall_ouster.pcap")?;
-/// let lengths = lidar::payloads_as(&capture, Reading::Savefile, 7502)?.map(<[u8]>::len);
-/// assert_eq!(lengths.collect::<Vec<_>>(), [12608, 12608]);
+/// let mut milliseconds = 0;
+/// for Payload { bytes, time } in lidar::payloads_as(&capture, Reading::Savefile, 7502)? {
+///     assert_eq!(bytes.len(), 12608);
+///     assert_eq!((time.seconds, time.fraction), (1_700_000_000, 1000 * milliseconds));
+///     assert_eq!(time.unit, TimeUnit::Microseconds);
+///     milliseconds += 1;
+/// }
+/// assert_eq!(milliseconds, 2);
 /// # Ok::<(), Box<dyn std::error::Error>>(())
 /// ```
 pub fn payloads_as(data: &[u8], reading: Reading, port: u16) -> Result<Payloads<'_>, Refusal> {
@@ -98,12 +134,13 @@ pub struct Payloads<'a> {
 }
 
 impl<'a> Iterator for Payloads<'a> {
-    type Item = &'a [u8];
+    type Item = Payload<'a>;
 
-    fn next(&mut self) -> Option<&'a [u8]> {
+    fn next(&mut self) -> Option<Payload<'a>> {
         let savefile = self.reading.map(Reading::is_savefile);
-        let (start, len) = ffi::next_payload(self.data, savefile, self.port, &mut self.at)?;
-        Some(&self.data[start..start + len])
+        let mut place = Place::default();
+        ffi::next_payload(self.data, savefile, self.port, &mut self.at, &mut place)
+            .then(|| Payload::at(place, self.data))
     }
 }
 

@@ -130,6 +130,9 @@ extern "C" {
         rank: usize,
         start: *mut usize,
         len: *mut usize,
+        seconds: *mut u32,
+        fraction: *mut u32,
+        unit: *mut u8,
     ) -> u8;
 
     fn lidar_payload_place(
@@ -139,6 +142,9 @@ extern "C" {
         rank: usize,
         start: *mut usize,
         len: *mut usize,
+        seconds: *mut u32,
+        fraction: *mut u32,
+        unit: *mut u8,
     ) -> u8;
 
     fn lidar_next_payload_as(
@@ -149,6 +155,9 @@ extern "C" {
         at: *mut usize,
         start: *mut usize,
         len: *mut usize,
+        seconds: *mut u32,
+        fraction: *mut u32,
+        unit: *mut u8,
     ) -> bool;
 
     fn lidar_next_payload(
@@ -158,6 +167,9 @@ extern "C" {
         at: *mut usize,
         start: *mut usize,
         len: *mut usize,
+        seconds: *mut u32,
+        fraction: *mut u32,
+        unit: *mut u8,
     ) -> bool;
 
     fn lidar_place_millimetres(
@@ -367,46 +379,73 @@ fn made_ready<const BEAMS: usize>(
     (sensor, beam_altitudes)
 }
 
-/// A call by rank: the number, and the payload's start and length, 0 where there is none.
+/// Where a payload stands, and when its record was captured, the unit by its number.
+#[derive(Debug, Default, PartialEq)]
+pub struct Place {
+    pub start: usize,
+    pub len: usize,
+    pub seconds: u32,
+    pub fraction: u32,
+    pub unit: u8,
+}
+
+/// A call by rank: the number. All of `place` is written, with 0 where there is no payload.
 pub fn payload_place(
     data: &[u8],
     savefile: Option<bool>,
     port: u16,
     rank: usize,
-) -> (u8, usize, usize) {
+    place: &mut Place,
+) -> u8 {
     let (bytes, bytes_len) = (data.as_ptr(), data.len());
-    let (mut start, mut len) = (0, 0);
+    let Place {
+        start,
+        len,
+        seconds,
+        fraction,
+        unit,
+    } = place;
     // SAFETY: a slice and references, as said above.
-    let number = unsafe {
+    unsafe {
         match savefile {
-            Some(savefile) => {
-                lidar_payload_place_as(bytes, bytes_len, savefile, port, rank, &mut start, &mut len)
-            }
-            None => lidar_payload_place(bytes, bytes_len, port, rank, &mut start, &mut len),
+            Some(savefile) => lidar_payload_place_as(
+                bytes, bytes_len, savefile, port, rank, start, len, seconds, fraction, unit,
+            ),
+            None => lidar_payload_place(
+                bytes, bytes_len, port, rank, start, len, seconds, fraction, unit,
+            ),
         }
-    };
-    (number, start, len)
+    }
 }
 
-/// The next payload's start and length. `at` is where the walk stands, and moves on.
+/// Whether there is a next payload. `at` is where the walk stands, and moves on. All of `place` is written,
+/// with 0 where there is no payload.
 pub fn next_payload(
     data: &[u8],
     savefile: Option<bool>,
     port: u16,
     at: &mut usize,
-) -> Option<(usize, usize)> {
+    place: &mut Place,
+) -> bool {
     let (bytes, bytes_len) = (data.as_ptr(), data.len());
-    let (mut start, mut len) = (0, 0);
+    let Place {
+        start,
+        len,
+        seconds,
+        fraction,
+        unit,
+    } = place;
     // SAFETY: a slice and references, as said above.
-    let found = unsafe {
+    unsafe {
         match savefile {
-            Some(savefile) => {
-                lidar_next_payload_as(bytes, bytes_len, savefile, port, at, &mut start, &mut len)
-            }
-            None => lidar_next_payload(bytes, bytes_len, port, at, &mut start, &mut len),
+            Some(savefile) => lidar_next_payload_as(
+                bytes, bytes_len, savefile, port, at, start, len, seconds, fraction, unit,
+            ),
+            None => lidar_next_payload(
+                bytes, bytes_len, port, at, start, len, seconds, fraction, unit,
+            ),
         }
-    };
-    found.then_some((start, len))
+    }
 }
 
 /// The belt: count, datum and pulse length, in the order of the calls.
@@ -476,4 +515,49 @@ pub fn stored_reading(data: &[u8], lvx2: bool, rank: usize) -> (u8, u8, [i64; 3]
         )
     };
     (number, stored, [first, second, third])
+}
+
+#[cfg(test)]
+mod tests {
+    use super::*;
+
+    /// Where there is no payload, all is written, and a magic of nanoseconds is not told.
+    #[test]
+    fn no_payload_is_told_as_zeros() {
+        let sample = std::fs::read("../../samples/hall_velodyne.pcap").unwrap();
+        // The sample's lengths are little-endian, and the magic says so to one reading alone.
+        let nanoseconds = |magic: [u8; 4]| [&magic, &sample[4..]].concat();
+        let rust = nanoseconds([0xA1, 0xB2, 0x3C, 0x4D]);
+        let savefile = nanoseconds([0x4D, 0x3C, 0xB2, 0xA1]);
+        for (data, reading) in [(&rust, None), (&rust, Some(false)), (&savefile, Some(true))] {
+            let none = |data: &[u8], port, rank, place_at, number| {
+                let mut place = canaries();
+                assert_eq!(payload_place(data, reading, port, rank, &mut place), number);
+                assert_eq!(place, Place::default());
+                let (mut place, mut at) = (canaries(), place_at);
+                assert!(!next_payload(data, reading, port, &mut at, &mut place));
+                assert_eq!((place, at), (Place::default(), place_at));
+            };
+            let mut place = canaries();
+            assert_eq!(payload_place(data, reading, 2368, 7, &mut place), 0);
+            assert_eq!((place.len, place.unit), (1206, 1));
+            // After the last, on another port, in a file without records, and in files that are refused.
+            none(data, 2368, 8, data.len(), 0);
+            none(data, 2369, 0, 0, 0);
+            none(&data[..24], 0, 0, 0, 0);
+            none(&data[..23], 0, 0, 0, 3);
+            none(&data[1..], 0, 0, 0, 4);
+        }
+    }
+
+    /// What no call tells of the sample.
+    fn canaries() -> Place {
+        Place {
+            start: 7,
+            len: 7,
+            seconds: 7,
+            fraction: 7,
+            unit: 7,
+        }
+    }
 }

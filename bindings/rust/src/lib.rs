@@ -31,9 +31,10 @@ mod ouster;
 mod placing;
 mod point;
 mod refusal;
+mod time;
 mod velodyne;
 
-pub use capture::{payload, payload_as, payloads, payloads_as, Payloads, Reading};
+pub use capture::{payload, payload_as, payloads, payloads_as, Payload, Payloads, Reading};
 pub use kitti::{read_kitti, read_kitti_into};
 pub use livox::{
     read_lvx, read_lvx2, read_lvx2_into, read_lvx_into, stored_reading, Form, LivoxCounts,
@@ -45,6 +46,7 @@ pub use ouster::{
 pub use placing::{place, place_in_file, pulses, BeltCount, BeltDatum, BeltPulses, PulseLength};
 pub use point::{Point, CARTESIAN, POLAR};
 pub use refusal::{Error, Refusal};
+pub use time::{FractionBeyondSecond, TimeUnit, Timestamp};
 pub use velodyne::{
     decode_velodyne_packet, decode_velodyne_packet_into, detect_velodyne_model, read_velodyne,
     read_velodyne_as, read_velodyne_into, read_velodyne_into_as, VelodyneModel,

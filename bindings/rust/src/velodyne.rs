@@ -61,7 +61,7 @@ pub fn decode_velodyne_packet(payload: &[u8]) -> Result<Vec<Point>, Error> {
 /// let (mut numbers, mut kinds) = ([0.0; 3 * 384], [0; 384]);
 /// let mut all = 0;
 /// for packet in lidar::payloads_as(&capture, lidar::Reading::Rust, 2368)? {
-///     all += lidar::decode_velodyne_packet_into(packet, &mut numbers, &mut kinds)?;
+///     all += lidar::decode_velodyne_packet_into(packet.bytes, &mut numbers, &mut kinds)?;
 /// }
 /// assert_eq!(all, 8 * 384);
 /// # Ok::<(), Box<dyn std::error::Error>>(())

@@ -2,8 +2,9 @@
 
 mod files;
 
-use files::{capture, lvx, lvx2, opening};
+use files::{capture, lvx, lvx2, opening, record};
 use lidar::*;
+use std::time::Duration;
 
 const READINGS: [Reading; 2] = [Reading::Rust, Reading::Savefile];
 
@@ -149,8 +150,10 @@ fn capture_headers_and_records() {
         // Records of 42, 43 and 44 bytes.
         for bytes in [&[][..], &[7], &[7, 8]] {
             let file = capture(reading, 2368, bytes);
-            let all: Vec<_> = payloads_as(&file, reading, 2368).unwrap().collect();
+            let walk = payloads_as(&file, reading, 2368).unwrap();
+            let all: Vec<_> = walk.map(|payload| payload.bytes).collect();
             let ranked = payload_as(&file, reading, 2368, 0);
+            let ranked = ranked.map(|payload| payload.map(|payload| payload.bytes));
             if bytes.is_empty() {
                 assert!(all.is_empty());
                 assert_eq!(ranked, Ok(None));
@@ -162,6 +165,136 @@ fn capture_headers_and_records() {
             let cut = &file[..file.len() - 1];
             assert_eq!(payloads_as(cut, reading, 2368).unwrap().count(), 0);
         }
+    }
+}
+
+/// The opening bytes of a capture, the unit that they state, and whether the magic's least significant byte
+/// comes first.
+const MAGICS: [([u8; 4], TimeUnit, bool); 4] = [
+    ([0xD4, 0xC3, 0xB2, 0xA1], TimeUnit::Microseconds, true),
+    ([0xA1, 0xB2, 0xC3, 0xD4], TimeUnit::Microseconds, false),
+    ([0x4D, 0x3C, 0xB2, 0xA1], TimeUnit::Nanoseconds, true),
+    ([0xA1, 0xB2, 0x3C, 0x4D], TimeUnit::Nanoseconds, false),
+];
+
+/// A capture in the byte order that a reading takes after a magic: a payload of one byte for each record, by
+/// its number, its time and its port.
+fn stamped(
+    magic: [u8; 4],
+    reading: Reading,
+    least_first: bool,
+    records: &[([u32; 2], u16)],
+) -> Vec<u8> {
+    let bytes: fn(u32) -> [u8; 4] = match (reading, least_first) {
+        (Reading::Savefile, true) | (Reading::Rust, false) => u32::to_le_bytes,
+        _ => u32::to_be_bytes,
+    };
+    let mut file = [&magic[..], &[0; 20]].concat();
+    for (i, (time, port)) in records.iter().enumerate() {
+        file.extend(record(bytes, *time, *port, &[i as u8]));
+    }
+    file
+}
+
+/// The byte order is by the reading, and the unit by the magic alone.
+#[test]
+fn times_after_each_magic_in_each_reading() {
+    // No number is another one, or another one with its bytes turned round.
+    let records = [
+        ([0x6553_F101, 0x000B_71B0], 2368),
+        ([0x6553_F202, 0x3B9A_C9FF], 2369),
+        ([0x0102_0304, 0xFFFF_FFFE], 2368),
+    ];
+    for (magic, unit, least_first) in MAGICS {
+        for reading in READINGS {
+            let file = stamped(magic, reading, least_first, &records);
+            for (port, ranks) in [(2368, &[0, 2][..]), (2369, &[1]), (0, &[0, 1, 2]), (9, &[])] {
+                let payloads: Vec<_> = payloads_as(&file, reading, port).unwrap().collect();
+                let told: Vec<_> = payloads
+                    .iter()
+                    .map(|Payload { bytes, time }| (bytes.to_vec(), *time))
+                    .collect();
+                let stored = |i: &usize| {
+                    let [seconds, fraction] = records[*i].0;
+                    let time = Timestamp {
+                        seconds,
+                        fraction,
+                        unit,
+                    };
+                    (vec![*i as u8], time)
+                };
+                let stored: Vec<_> = ranks.iter().map(stored).collect();
+                assert_eq!(told, stored, "{magic:x?}, {reading:?}, port {port}");
+                // By rank there is the same. After the last there is none, and so no unit either.
+                for rank in 0..=payloads.len() {
+                    let ranked = payload_as(&file, reading, port, rank);
+                    assert_eq!(ranked, Ok(payloads.get(rank).copied()));
+                    if reading == Reading::Rust {
+                        assert_eq!(payload(&file, port, rank), ranked);
+                    }
+                }
+                if reading == Reading::Rust {
+                    assert!(lidar::payloads(&file, port).unwrap().eq(payloads));
+                }
+            }
+        }
+    }
+}
+
+#[test]
+fn fractions_of_a_second() {
+    // The nanoseconds of so many microseconds, and of so many nanoseconds, below a second.
+    for (fraction, of_microseconds, of_nanoseconds) in [
+        (0, Some(0), Some(0)),
+        (1, Some(1_000), Some(1)),
+        (999_999, Some(999_999_000), Some(999_999)),
+        (1_000_000, None, Some(1_000_000)),
+        (1_000_001, None, Some(1_000_001)),
+        // Times 1,000 the first is the last below 2^32, and the second would wrap to 704.
+        (4_294_967, None, Some(4_294_967)),
+        (4_294_968, None, Some(4_294_968)),
+        (999_999_999, None, Some(999_999_999)),
+        (1_000_000_000, None, None),
+        (1_000_000_001, None, None),
+        (u32::MAX, None, None),
+    ] {
+        for (magic, unit, least_first) in MAGICS {
+            let nanoseconds = match unit {
+                TimeUnit::Microseconds => of_microseconds,
+                TimeUnit::Nanoseconds => of_nanoseconds,
+            };
+            for seconds in [0, 1, u32::MAX] {
+                let reading = Reading::Savefile;
+                let records = [([seconds, fraction], 2368)];
+                let file = stamped(magic, reading, least_first, &records);
+                let Ok(Some(Payload { time, .. })) = payload_as(&file, reading, 2368, 0) else {
+                    panic!("{magic:x?}");
+                };
+                // As stored, also where it is a second or more.
+                let stored = Timestamp {
+                    seconds,
+                    fraction,
+                    unit,
+                };
+                assert_eq!(time, stored);
+                let since = nanoseconds.map(|part| Duration::new(seconds.into(), part));
+                let beyond = FractionBeyondSecond { fraction, unit };
+                assert_eq!(time.since_epoch(), since.ok_or(beyond), "{time:?}");
+            }
+        }
+    }
+    for (unit, text) in [
+        (
+            TimeUnit::Microseconds,
+            "the fraction is 1000000000 microseconds, a second or more",
+        ),
+        (
+            TimeUnit::Nanoseconds,
+            "the fraction is 1000000000 nanoseconds, a second or more",
+        ),
+    ] {
+        let fraction = 1_000_000_000;
+        assert_eq!(FractionBeyondSecond { fraction, unit }.to_string(), text);
     }
 }
 

@@ -5,7 +5,7 @@
 
 mod files;
 
-use files::{capture, lvx, lvx2};
+use files::{capture, lvx, lvx2, TIME};
 use lidar::*;
 use std::fmt::Debug;
 
@@ -287,9 +287,18 @@ fn ouster() {
     }
 }
 
+/// Each of a payload's lent numbers arrives as what it is.
 #[test]
 fn payloads_of_captures() {
     let bytes = vec![7, 8, 9];
+    let [seconds, fraction] = TIME;
+    let unit = TimeUnit::Microseconds;
+    let time = Timestamp {
+        seconds,
+        fraction,
+        unit,
+    };
+    let copied = |Payload { bytes, time }: Payload| (bytes.to_vec(), time);
     for (reading, named) in READ_AS {
         let data = capture(reading, 2368, &bytes);
         of_data(
@@ -299,9 +308,9 @@ fn payloads_of_captures() {
                     Some(reading) => payload_as(data, reading, 2368, 0),
                     None => payload(data, 2368, 0),
                 };
-                found.map(|part| part.map(<[u8]>::to_vec))
+                found.map(|found| found.map(copied))
             },
-            Ok(Some(bytes.clone())),
+            Ok(Some((bytes.clone(), time))),
             Ok(None),
         );
         of_data(
@@ -311,13 +320,17 @@ fn payloads_of_captures() {
                     Some(reading) => payloads_as(data, reading, 2368),
                     None => payloads(data, 2368),
                 };
-                all.map(|all| all.map(<[u8]>::to_vec).collect())
+                all.map(|all| all.map(copied).collect())
             },
-            Ok(vec![bytes.clone()]),
+            Ok(vec![(bytes.clone(), time)]),
             Ok(vec![]),
         );
         // The port, too, is passed on.
-        for (port, found) in [(2367, None), (2369, None), (0, Some(&bytes[..]))] {
+        let whole = Payload {
+            bytes: &bytes,
+            time,
+        };
+        for (port, found) in [(2367, None), (2369, None), (0, Some(whole))] {
             let (one, all) = match named {
                 Some(reading) => (
                     payload_as(&data, reading, port, 0),

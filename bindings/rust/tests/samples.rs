@@ -256,7 +256,7 @@ fn velodyne_captures_are_read_by_the_reading_that_is_named() {
     // Packet by packet there are the same points.
     let by_packet: Vec<_> = payloads_as(&file, Reading::Rust, 2368)
         .unwrap()
-        .flat_map(|packet| decode_velodyne_packet(packet).unwrap())
+        .flat_map(|packet| decode_velodyne_packet(packet.bytes).unwrap())
         .collect();
     assert_eq!(by_packet, points);
 
@@ -337,17 +337,17 @@ fn payloads_are_parts_of_the_capture() {
     let file = sample("hall_velodyne.pcap");
     let all: Vec<_> = payloads_as(&file, Reading::Rust, 2368).unwrap().collect();
     assert_eq!(all.len(), 8);
-    for (rank, part) in all.iter().enumerate() {
+    for (rank, payload) in all.iter().enumerate() {
         // Record after record of 16 + 42 + 1,206 bytes, from byte 24 on.
         let start = 24 + 1264 * rank + 58;
         assert!(
-            std::ptr::eq(*part, &file[start..start + 1206]),
+            std::ptr::eq(payload.bytes, &file[start..start + 1206]),
             "rank {rank}"
         );
         let ranked = payload_as(&file, Reading::Rust, 2368, rank)
             .unwrap()
             .unwrap();
-        assert!(std::ptr::eq(*part, ranked), "rank {rank}");
+        assert!(std::ptr::eq(payload.bytes, ranked.bytes), "rank {rank}");
     }
     assert_eq!(payload_as(&file, Reading::Rust, 2368, 8), Ok(None));
     // Port 0 asks for every port, and a port beside finds nothing.
@@ -363,4 +363,45 @@ fn payloads_are_parts_of_the_capture() {
     let mut walk = payloads_as(&file, Reading::Rust, 2368).unwrap();
     assert_eq!(walk.by_ref().count(), 8);
     assert_eq!((walk.next(), walk.next()), (None, None));
+}
+
+#[test]
+fn times_of_the_samples_rise_by_milliseconds() {
+    for (name, reading, port, packets) in [
+        ("hall_velodyne.pcap", Reading::Rust, 2368, 8),
+        ("hall_ouster.pcap", Reading::Savefile, 7502, 2),
+    ] {
+        let file = sample(name);
+        // The same capture of nanoseconds, and both as the other reading takes them.
+        let nanosecond = |file: &[u8]| {
+            let mut file = file.to_vec();
+            let magic = &mut file[..4];
+            magic.iter_mut().for_each(|byte| match *byte {
+                0xC3 => *byte = 0x3C,
+                0xD4 => *byte = 0x4D,
+                _ => {}
+            });
+            file
+        };
+        let other = match reading {
+            Reading::Rust => Reading::Savefile,
+            _ => Reading::Rust,
+        };
+        let turned = turned(file.clone());
+        for (file, reading, unit) in [
+            (nanosecond(&file), reading, TimeUnit::Nanoseconds),
+            (nanosecond(&turned), other, TimeUnit::Nanoseconds),
+            (file, reading, TimeUnit::Microseconds),
+            (turned, other, TimeUnit::Microseconds),
+        ] {
+            let times = payloads_as(&file, reading, port).unwrap();
+            let times: Vec<_> = times.map(|payload| payload.time).collect();
+            let rising = (0..packets).map(|rank| Timestamp {
+                seconds: 1_700_000_000,
+                fraction: 1000 * rank,
+                unit,
+            });
+            assert!(times.iter().copied().eq(rising), "{name}: {times:?}");
+        }
+    }
 }

@@ -146,7 +146,7 @@ fn capture(data: &[u8], kinds: &[Name]) -> Result<Told, String> {
 /// lidar.rs takes the flag of a block the other way round from what sensors send.
 fn sent_by_a_sensor(data: &[u8], reading: Reading) -> bool {
     let first = lidar::payload_as(data, reading, port(Name::Velodyne), 0);
-    matches!(first, Ok(Some([0xFF, 0xEE, ..])))
+    matches!(first, Ok(Some(packet)) if packet.bytes.starts_with(&[0xFF, 0xEE]))
 }
 
 fn port(kind: Name) -> u16 {
@@ -161,7 +161,7 @@ fn ouster_settings(data: &[u8], reading: Reading) -> OusterSettings {
     let longer = OusterSettings::os_128();
     let needed = longer.columns_per_packet * (16 + 12 * longer.pixels_per_column + 4);
     match lidar::payload_as(data, reading, port(Name::Ouster), 0) {
-        Ok(Some(packet)) if packet.len() >= needed => longer,
+        Ok(Some(packet)) if packet.bytes.len() >= needed => longer,
         _ => OusterSettings::os1_64(),
     }
 }
