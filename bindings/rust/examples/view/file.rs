@@ -1,7 +1,8 @@
 //! What kind of file it is, and what it tells.
 
 use crate::scene::Angles;
-use lidar::{OusterSettings, Point, Reading};
+use crate::time::utc;
+use lidar::{OusterSettings, Payloads, Point, Reading, Timestamp};
 use std::path::Path;
 
 /// The kinds that a user can name.
@@ -32,6 +33,8 @@ pub struct Told {
     pub angles: Angles,
     /// The kind of file, and how it was read.
     pub what: String,
+    /// Of a capture, the first and the last time.
+    pub captured: Option<String>,
 }
 
 /// Reads a file as the kind that is named, or else as the one that it seems to be.
@@ -78,6 +81,7 @@ fn kitti(data: &[u8]) -> Result<Told, String> {
         what: format!("KITTI, {}", counted(points.len(), "point")),
         points,
         angles: Angles::Livox,
+        captured: None,
     })
 }
 
@@ -91,29 +95,54 @@ fn livox(form: &str, read: Result<lidar::LivoxPoints, lidar::Error>) -> Result<T
         ),
         points,
         angles: Angles::Livox,
+        captured: None,
     })
+}
+
+/// The packets of a capture: how many, and the times of the first and the last one.
+struct Packets {
+    count: usize,
+    first: Timestamp,
+    last: Timestamp,
+}
+
+impl Packets {
+    /// `None` where there is no packet.
+    fn of(mut payloads: Payloads<'_>) -> Option<Packets> {
+        let first = payloads.next()?.time;
+        let mut packets = Packets {
+            count: 1,
+            first,
+            last: first,
+        };
+        for payload in payloads {
+            packets.count += 1;
+            packets.last = payload.time;
+        }
+        Some(packets)
+    }
 }
 
 /// Reads a capture as that one of the kinds, and in that reading, which has most packets on its port.
 fn capture(data: &[u8], kinds: &[Name]) -> Result<Told, String> {
-    let mut most = (0, Name::Velodyne, Reading::Rust);
+    let mut most: Option<(Packets, Name, Reading)> = None;
     for kind in kinds {
         for reading in [Reading::Rust, Reading::Savefile] {
             let payloads = lidar::payloads_as(data, reading, port(*kind));
-            let packets = payloads.map_err(|refusal| refusal.to_string())?.count();
-            if packets > most.0 {
-                most = (packets, *kind, reading);
+            let packets = Packets::of(payloads.map_err(|refusal| refusal.to_string())?);
+            let fewer = most.as_ref().map_or(0, |(packets, ..)| packets.count);
+            if let Some(packets) = packets.filter(|packets| packets.count > fewer) {
+                most = Some((packets, *kind, reading));
             }
         }
     }
-    let (packets, kind, reading) = most;
-    if packets == 0 {
+    let Some((packets, kind, reading)) = most else {
         let ports: Vec<_> = kinds.iter().map(|kind| port(*kind).to_string()).collect();
         return Err(format!(
             "the capture has no packet on port {}",
             ports.join(" or ")
         ));
-    }
+    };
     let (sensor, angles, points) = match kind {
         Name::Ouster => {
             let settings = ouster_settings(data, reading);
@@ -131,15 +160,18 @@ fn capture(data: &[u8], kinds: &[Name]) -> Result<Told, String> {
         Reading::Savefile => "savefile reading",
         _ => "reading of lidar.rs",
     };
-    let (points_told, packets) = (counted(points.len(), "point"), counted(packets, "packet"));
-    let mut what = format!("{sensor}, {points_told} in {packets}, {by}");
+    let points_told = counted(points.len(), "point");
+    let packets_told = counted(packets.count, "packet");
+    let mut what = format!("{sensor}, {points_told} in {packets_told}, {by}");
     if kind == Name::Velodyne && points.is_empty() && sent_by_a_sensor(data, reading) {
         what += "; its blocks start FF EE, which lidar.rs passes over";
     }
+    let (first, last) = (utc(packets.first), utc(packets.last));
     Ok(Told {
         what,
         points,
         angles,
+        captured: Some(format!("captured {first} to {last}")),
     })
 }
 
@@ -223,6 +255,37 @@ mod tests {
         assert_eq!(named.ok().unwrap().what, "KITTI, 1 point");
         assert!(read(&[0; 16], Path::new("a.BIN"), None).is_ok());
         assert!(read(&[], Path::new("empty"), None).is_err());
+    }
+
+    #[test]
+    fn captures_have_the_times_of_their_first_and_last_packet() {
+        let captured = |file: &[u8]| read(file, Path::new("a"), None).ok().unwrap().captured;
+        let mut file = std::fs::read("../../samples/hall_velodyne.pcap").unwrap();
+        let day = "2023-11-14 22:13";
+        assert_eq!(
+            captured(&file),
+            Some(format!(
+                "captured {day}:20.000000 UTC to {day}:20.007000 UTC"
+            ))
+        );
+        // Nanoseconds, of which the first packet states a second too many, and the last one's second
+        // comes sooner.
+        file[..4].copy_from_slice(&[0xA1, 0xB2, 0x3C, 0x4D]);
+        file[28..32].copy_from_slice(&1_000_000_000u32.to_le_bytes());
+        let last = 24 + 7 * 1264;
+        file[last..last + 4].copy_from_slice(&1_699_999_999u32.to_le_bytes());
+        assert_eq!(
+            captured(&file),
+            Some(format!(
+                "captured {day}:20 UTC and 1000000000 nanoseconds to {day}:19.000007000 UTC"
+            ))
+        );
+        // One packet is the first and the last.
+        let one = captured(&file[..24 + 1264]).unwrap();
+        assert_eq!(one.matches("1000000000 nanoseconds").count(), 2);
+        // Other files have no times.
+        let other = std::fs::read("../../samples/one_point.lvx2").unwrap();
+        assert_eq!(captured(&other), None);
     }
 
     #[test]

@@ -7,6 +7,7 @@
 mod file;
 mod scene;
 mod svg;
+mod time;
 
 use std::io::{Read, Write};
 use std::path::{Path, PathBuf};
@@ -16,7 +17,8 @@ const USAGE: &str = "usage: ./view FILE [OUT.svg] [--as kitti|lvx|lvx2|velodyne|
 
 Draws the points of a lidar file from above. The picture goes to OUT.svg, or to standard output.
 The kind of file is told by its opening bytes, and KITTI, which has none, by a name that ends in .bin.
-A capture is drawn as Velodyne or Ouster and in the reading that finds most packets.
+A capture is drawn as Velodyne or Ouster and in the reading that finds most packets, and the times of
+the first and the last of them are told.
 Points beyond METRES, by default 1000, are left out and counted.";
 
 struct Asked {
@@ -71,7 +73,7 @@ fn draw(asked: &Asked) -> Result<(), String> {
     let told =
         file::read(&data, &asked.file, asked.name).map_err(|why| format!("{shown}: {why}"))?;
     let scene = scene::Scene::new(&told.points, told.angles, asked.within);
-    let caption = scene.caption(&told.what);
+    let caption = scene.caption(&told.what, told.captured.as_deref());
     let name = asked.file.file_name().unwrap_or(asked.file.as_os_str());
     let picture = svg::draw(&scene, &name.to_string_lossy(), &caption);
     match &asked.out {

@@ -85,9 +85,10 @@ impl Scene {
         scene
     }
 
-    /// What stands below the file's name: what it is, and what is left out.
-    pub fn caption(&self, what: &str) -> Vec<String> {
+    /// What stands below the file's name: what it is, when it was captured, and what is left out.
+    pub fn caption(&self, what: &str, captured: Option<&str>) -> Vec<String> {
         let mut lines = vec![what.to_string()];
+        lines.extend(captured.map(str::to_string));
         let mut left_out = Vec::new();
         if self.not_finite > 0 {
             left_out.push(format!("{} not finite", counted(self.not_finite, "point")));
@@ -188,17 +189,18 @@ mod tests {
         );
         assert_eq!(scene.dots[0].range, 3.0);
         assert_eq!(
-            scene.caption("KITTI, 10 points"),
+            scene.caption("Velodyne, 10 points", Some("captured then")),
             [
-                "KITTI, 10 points",
+                "Velodyne, 10 points",
+                "captured then",
                 "left out: 5 points not finite and 3 points beyond 1000 m"
             ]
         );
         let all = Scene::new(&points[..1], Angles::Livox, 3.0);
-        assert_eq!(all.caption("KITTI, 1 point"), ["KITTI, 1 point"]);
+        assert_eq!(all.caption("KITTI, 1 point", None), ["KITTI, 1 point"]);
         let none = Scene::new(&points[..1], Angles::Livox, 2.9);
-        assert_eq!(none.caption("a")[1], "left out: 1 point beyond 2.9 m");
+        assert_eq!(none.caption("a", None)[1], "left out: 1 point beyond 2.9 m");
         let empty = Scene::new(&[], Angles::Livox, 1.0);
-        assert_eq!(empty.caption("a")[1], "there is no point to draw");
+        assert_eq!(empty.caption("a", None)[1], "there is no point to draw");
     }
 }

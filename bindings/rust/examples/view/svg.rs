@@ -7,9 +7,16 @@ use std::fmt::Write;
 const WIDTH: f64 = 820.0;
 const HEIGHT: f64 = 620.0;
 const LEFT: f64 = 74.0;
-const TOP: f64 = 92.0;
 const RIGHT: f64 = 118.0;
 const BOTTOM: f64 = 92.0;
+
+/// From one line of the caption to the next.
+const LINE: f64 = 18.0;
+
+/// Where the plot starts: below the caption, with room for two lines or more.
+fn top(caption: &[String]) -> f64 {
+    56.0 + LINE * caption.len().max(2) as f64
+}
 
 /// From near to far.
 const COLOURS: [[f64; 3]; 5] = [
@@ -110,6 +117,7 @@ fn escaped(text: &str) -> String {
 /// Where metres stand in the picture.
 struct Plot {
     bounds: Bounds,
+    top: f64,
     /// Pixels a metre.
     scale: f64,
     width: f64,
@@ -118,11 +126,12 @@ struct Plot {
 }
 
 impl Plot {
-    fn new(bounds: Bounds) -> Plot {
+    fn new(bounds: Bounds, top: f64) -> Plot {
         let scale = (WIDTH / bounds.width()).min(HEIGHT / bounds.height());
         let (width, height) = (scale * bounds.width(), scale * bounds.height());
         Plot {
             bounds,
+            top,
             scale,
             width,
             height,
@@ -135,7 +144,7 @@ impl Plot {
     }
 
     fn y(&self, metres: f64) -> f64 {
-        TOP + (self.bounds.y[1] - metres) * self.scale
+        self.top + (self.bounds.y[1] - metres) * self.scale
     }
 
     /// The whole numbers of steps inside a side.
@@ -153,7 +162,7 @@ fn seen<'a>(plot: &Plot, dots: &'a [Dot]) -> Vec<&'a Dot> {
     let mut pixels: Vec<Option<&Dot>> = vec![None; columns * rows];
     for dot in dots {
         let column = ((plot.x(dot.x) - LEFT) as usize).min(columns - 1);
-        let row = ((plot.y(dot.y) - TOP) as usize).min(rows - 1);
+        let row = ((plot.y(dot.y) - plot.top) as usize).min(rows - 1);
         let pixel = &mut pixels[row * columns + column];
         if !matches!(pixel, Some(other) if other.z >= dot.z) {
             *pixel = Some(dot);
@@ -177,10 +186,10 @@ fn ranges(dots: &[Dot]) -> [f64; 2] {
 }
 
 pub fn draw(scene: &Scene, title: &str, caption: &[String]) -> String {
-    let plot = Plot::new(Bounds::new(&scene.dots));
+    let plot = Plot::new(Bounds::new(&scene.dots), top(caption));
     let (width, height) = (
         LEFT + plot.width.max(420.0) + RIGHT,
-        TOP + plot.height + BOTTOM,
+        plot.top + plot.height + BOTTOM,
     );
     let mut out = String::new();
     // Writing to a string does not fail.
@@ -195,7 +204,7 @@ pub fn draw(scene: &Scene, title: &str, caption: &[String]) -> String {
         escaped(title)
     );
     for (i, line) in caption.iter().enumerate() {
-        let y = 56 + 18 * i;
+        let y = 56.0 + LINE * i as f64;
         let _ = writeln!(out, "<text x=\"{LEFT}\" y=\"{y}\">{}</text>", escaped(line));
     }
     grid(&mut out, &plot);
@@ -210,16 +219,17 @@ pub fn draw(scene: &Scene, title: &str, caption: &[String]) -> String {
 }
 
 fn grid(out: &mut String, plot: &Plot) {
-    let (right, bottom) = (LEFT + plot.width, TOP + plot.height);
+    let top = plot.top;
+    let (right, bottom) = (LEFT + plot.width, top + plot.height);
     let _ = writeln!(
         out,
-        "<rect x=\"{LEFT}\" y=\"{TOP}\" width=\"{:.1}\" height=\"{:.1}\" fill=\"#fafafa\" stroke=\"#ccc\"/>",
+        "<rect x=\"{LEFT}\" y=\"{top}\" width=\"{:.1}\" height=\"{:.1}\" fill=\"#fafafa\" stroke=\"#ccc\"/>",
         plot.width, plot.height
     );
     let mut lines = String::new();
     for value in plot.ticks(plot.bounds.x) {
         let (x, text) = (plot.x(value), label(value, plot.step));
-        let _ = write!(lines, "M{x:.1} {TOP}V{bottom:.1}");
+        let _ = write!(lines, "M{x:.1} {top}V{bottom:.1}");
         let y = bottom + 18.0;
         let _ = writeln!(
             out,
@@ -239,7 +249,7 @@ fn grid(out: &mut String, plot: &Plot) {
         out,
         "<path d=\"{lines}\" stroke=\"#e4e4e4\" fill=\"none\"/>"
     );
-    let (x, y) = (LEFT - 46.0, TOP + plot.height / 2.0);
+    let (x, y) = (LEFT - 46.0, top + plot.height / 2.0);
     let _ = writeln!(
         out,
         "<text x=\"{x:.1}\" y=\"{y:.1}\" text-anchor=\"middle\" transform=\"rotate(-90 {x:.1} {y:.1})\">y in m</text>"
@@ -302,7 +312,7 @@ fn axis(out: &mut String, plot: &Plot) {
         right + 18.0,
         y + 13.0,
     );
-    let (x, y) = (LEFT + plot.width, TOP + plot.height + 56.5);
+    let (x, y) = (LEFT + plot.width, plot.top + plot.height + 56.5);
     let _ = writeln!(
         out,
         "<g transform=\"translate({:.1} {:.1})\"><circle cx=\"0\" cy=\"-4.5\" r=\"6\" fill=\"#fff\" stroke=\"#222\" stroke-width=\"1.5\"/>\
@@ -311,7 +321,7 @@ fn axis(out: &mut String, plot: &Plot) {
         sensor_start(plot),
         y,
         (LEFT + x) / 2.0,
-        TOP + plot.height + 38.0,
+        plot.top + plot.height + 38.0,
     );
 }
 
@@ -331,7 +341,7 @@ fn legend_start(plot: &Plot) -> f64 {
 /// The colours, from the nearest to the farthest range.
 fn legend(out: &mut String, plot: &Plot, [near, far]: [f64; 2]) {
     let (x, long, thick) = (legend_start(plot), LEGEND, 10.0);
-    let y = TOP + plot.height + 46.0;
+    let y = plot.top + plot.height + 46.0;
     let part = long / SHADES as f64;
     for shade in 0..SHADES {
         // A little wider than its part, so that no gap shows between two.
@@ -410,11 +420,14 @@ mod tests {
             dot(1.0, 1.0, -1.0),
             dot(1.0, 1.0, -3.0),
             dot(2.0, 1.0, -5.0),
+            // Near the lower edge, one below the other.
+            dot(2.0, 0.1, -6.0),
+            dot(2.0, 0.0, -7.0),
         ];
-        let plot = Plot::new(Bounds::new(&dots));
+        let plot = Plot::new(Bounds::new(&dots), top(&[]));
         let mut heights: Vec<_> = seen(&plot, &dots).iter().map(|dot| dot.z).collect();
         heights.sort_by(f64::total_cmp);
-        assert_eq!(heights, [-5.0, -1.0]);
+        assert_eq!(heights, [-7.0, -6.0, -5.0, -1.0]);
     }
 
     #[test]
@@ -433,7 +446,7 @@ mod tests {
         ];
         let scene = Scene::new(&points, Angles::Livox, 1000.0);
         let picture = draw(&scene, "a", &[]);
-        let plot = Plot::new(Bounds::new(&scene.dots));
+        let plot = Plot::new(Bounds::new(&scene.dots), top(&[]));
         // x to the right, and y up.
         assert!(plot.x(2.0) > plot.x(-2.0) && plot.y(1.0) < plot.y(-1.0));
         for (x, y) in [(2.0, 1.0), (-2.0, -1.0)] {
@@ -441,6 +454,20 @@ mod tests {
         }
         assert_eq!(picture.matches("h0").count(), 2);
         assert!(!picture.contains("NaN") && !picture.contains("inf"));
+    }
+
+    #[test]
+    fn the_plot_starts_below_the_caption() {
+        let scene = Scene::new(&[], Angles::Livox, 1.0);
+        for (lines, start) in [(0, 92), (1, 92), (2, 92), (3, 110)] {
+            let caption = vec!["line".to_string(); lines];
+            let picture = draw(&scene, "a", &caption);
+            assert!(picture.contains(&format!("<rect x=\"74\" y=\"{start}\"")));
+            assert_eq!(picture.matches(">line</text>").count(), lines);
+            let last = 56 + 18 * (lines as i32 - 1);
+            assert!(lines == 0 || picture.contains(&format!("y=\"{last}\">line</text>")));
+            assert!(last + 18 <= start);
+        }
     }
 
     #[test]
