@@ -1,9 +1,10 @@
-/* Reads a lidar file and prints what it is and its first points:
+/* Reads a lidar file and prints what it is, its first points, and of a capture its first and last time:
 
        first_points kitti|lvx|lvx2|velodyne|ouster FILE
        first_points velodyne|ouster FILE savefile
 
    A capture is read as lidar.rs reads it, or, with `savefile`, as capture tools write it. */
+#include <inttypes.h>
 #include <stdio.h>
 #include <stdlib.h>
 #include <string.h>
@@ -151,20 +152,55 @@ static void print_stored(struct file file, bool lvx2, size_t rank) {
         printf("placing it: refused %d\n", number);
 }
 
-/* The packets of a Velodyne capture, and the model that the first one names. */
-static void print_packets(struct file file, bool savefile) {
+/* When a packet was captured, as its record states it. */
+struct timestamp {
+    uint32_t seconds, fraction;
+    uint8_t unit;
+};
+
+/* Seconds since 1970, with all the digits of the unit. A fraction of a second or more has too many, and is
+   printed as it is stored. */
+static void print_time(struct timestamp time) {
+    bool nanoseconds = time.unit == LIDAR_NANOSECONDS;
+    uint32_t second = nanoseconds ? 1000000000 : 1000000;
+
+    if (time.fraction < second)
+        printf("%" PRIu32 ".%0*" PRIu32, time.seconds, nanoseconds ? 9 : 6, time.fraction);
+    else
+        printf("%" PRIu32 " and %" PRIu32 " %s", time.seconds, time.fraction,
+               nanoseconds ? "nanoseconds" : "microseconds");
+}
+
+/* The packets of a capture: how many, and the model that the first one names, if they are Velodyne's, and
+   the times of the first and the last. */
+static void print_packets(enum kind kind, struct file file, bool savefile) {
+    uint16_t port = kind == VELODYNE ? 2368 : 7502;
     size_t at = 0, start, len, packets = 0;
+    struct timestamp time, first = {0, 0, LIDAR_MICROSECONDS}, last = first;
     const char *model = "none";
 
-    while (lidar_next_payload_as(file.data, file.len, savefile, 2368, &at, &start, &len))
-        if (packets++ == 0 && len >= 1206)
+    while (lidar_next_payload_as(file.data, file.len, savefile, port, &at, &start, &len, &time.seconds,
+                                 &time.fraction, &time.unit)) {
+        /* Kept, since the call that finds no more packets writes zeros. */
+        last = time;
+        if (packets++ > 0)
+            continue;
+        first = time;
+        if (len >= 1206)
             switch (lidar_detect_velodyne_model(file.data[start + 1205])) {
             case LIDAR_VLP16: model = "VLP-16"; break;
             case LIDAR_HDL32E: model = "HDL-32E"; break;
             case LIDAR_VLP32C: model = "VLP-32C"; break;
             default: model = "unknown"; break;
             }
-    printf("packets %zu, model %s\n", packets, model);
+    }
+    if (kind == VELODYNE)
+        printf("packets %zu, model %s\n", packets, model);
+    printf("times ");
+    print_time(first);
+    printf(" to ");
+    print_time(last);
+    printf("\n");
 }
 
 int main(int argc, char **argv) {
@@ -194,8 +230,8 @@ int main(int argc, char **argv) {
         printf("points %zu, frames %zu\n", cloud.points, cloud.frames);
         for (i = 0; i < cloud.points && i < SHOWN; i++)
             print_point(kind, cloud.kinds[i], cloud.numbers + 3 * i);
-        if (kind == VELODYNE)
-            print_packets(file, savefile);
+        if (kind == VELODYNE || kind == OUSTER)
+            print_packets(kind, file, savefile);
         if ((kind == LVX || kind == LVX2) && cloud.points > 0)
             print_stored(file, kind == LVX2, cloud.points - 1);
     } else if (number == LIDAR_NO_ROOM) {
