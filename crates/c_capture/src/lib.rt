@@ -11,7 +11,7 @@ ghost use Rattle.points.specs.ReadInto.{firstRefusal};
 ghost use Rattle.record_rule.specs.Reading.{usual};
 ghost use Rattle.savefile.specs.Savefile.{checks};
 ghost use Rattle.c_form.specs.Reading.{readingOf};
-ghost use Rattle.c_capture.specs.Capture.{payloadTold, tellPayload, tellPlace, movedOn, stepFrom, tellNext};
+ghost use Rattle.c_capture.specs.Capture.{payloadTold, tellPayload, tellPlace, movedOn, stepFrom, tellStep, tellNext};
 
 #[no_mangle]
 pub extern "C" fn lidar_payload_place_as(
@@ -27,17 +27,10 @@ pub extern "C" fn lidar_payload_place_as(
 ) -> u8
     ensures { λ r. ⌜ (r, payloadTold (now (start .exit)) (now (len .exit)) (now (seconds .exit), now (fraction .exit), now (unit .exit))) ≡ tellPlace (readingOf savefile) port rank (now («data» .entry)) ⌝ }
 {
-    tell_place(
-        data,
-        reading_of(savefile),
-        port,
-        rank,
-        start,
-        len,
-        seconds,
-        fraction,
-        unit,
-    )
+    let reading = reading_of(savefile);
+    let place = payloads::payload_place_as(data, reading, port, rank);
+    tell_payload(place, start, len, seconds, fraction, unit);
+    number_of(data, reading)
 }
 
 #[no_mangle]
@@ -53,17 +46,9 @@ pub extern "C" fn lidar_payload_place(
 ) -> u8
     ensures { λ r. ⌜ (r, payloadTold (now (start .exit)) (now (len .exit)) (now (seconds .exit), now (fraction .exit), now (unit .exit))) ≡ tellPlace usual port rank (now («data» .entry)) ⌝ }
 {
-    tell_place(
-        data,
-        Reading::usual(),
-        port,
-        rank,
-        start,
-        len,
-        seconds,
-        fraction,
-        unit,
-    )
+    let place = payloads::payload_place(data, port, rank);
+    tell_payload(place, start, len, seconds, fraction, unit);
+    number_of(data, Reading::usual())
 }
 
 #[no_mangle]
@@ -80,17 +65,8 @@ pub extern "C" fn lidar_next_payload_as(
 ) -> bool
     ensures { λ r. ⌜ (r, now (at .exit), payloadTold (now (start .exit)) (now (len .exit)) (now (seconds .exit), now (fraction .exit), now (unit .exit))) ≡ tellNext (readingOf savefile) port (now («data» .entry)) (now (at .entry)) ⌝ }
 {
-    tell_next(
-        data,
-        reading_of(savefile),
-        port,
-        at,
-        start,
-        len,
-        seconds,
-        fraction,
-        unit,
-    )
+    let step = step_from(data, reading_of(savefile), port, *at);
+    tell_step(step, at, start, len, seconds, fraction, unit)
 }
 
 #[no_mangle]
@@ -106,35 +82,8 @@ pub extern "C" fn lidar_next_payload(
 ) -> bool
     ensures { λ r. ⌜ (r, now (at .exit), payloadTold (now (start .exit)) (now (len .exit)) (now (seconds .exit), now (fraction .exit), now (unit .exit))) ≡ tellNext usual port (now («data» .entry)) (now (at .entry)) ⌝ }
 {
-    tell_next(
-        data,
-        Reading::usual(),
-        port,
-        at,
-        start,
-        len,
-        seconds,
-        fraction,
-        unit,
-    )
-}
-
-fn tell_place(
-    data: &[u8],
-    reading: Reading,
-    port: u16,
-    rank: usize,
-    start: &mut usize,
-    len: &mut usize,
-    seconds: &mut u32,
-    fraction: &mut u32,
-    unit: &mut u8,
-) -> u8
-    ensures { λ r. ⌜ (r, payloadTold (now (start .exit)) (now (len .exit)) (now (seconds .exit), now (fraction .exit), now (unit .exit))) ≡ tellPlace reading port rank (now («data» .entry)) ⌝ }
-{
-    let place = payloads::payload_place_as(data, reading, port, rank);
-    tell_payload(place, start, len, seconds, fraction, unit);
-    number_of(data, reading)
+    let step = step_from(data, Reading::usual(), port, *at);
+    tell_step(step, at, start, len, seconds, fraction, unit)
 }
 
 // The checks do not ask for a port.
@@ -144,32 +93,6 @@ fn number_of(data: &[u8], reading: Reading) -> u8
     match capture::open_as(data, reading, 0) {
         Opened::Walk(_) => 0,
         Opened::Refused(refusal) => refusal.number(),
-    }
-}
-
-fn tell_next(
-    data: &[u8],
-    reading: Reading,
-    port: u16,
-    at: &mut usize,
-    start: &mut usize,
-    len: &mut usize,
-    seconds: &mut u32,
-    fraction: &mut u32,
-    unit: &mut u8,
-) -> bool
-    ensures { λ r. ⌜ (r, now (at .exit), payloadTold (now (start .exit)) (now (len .exit)) (now (seconds .exit), now (fraction .exit), now (unit .exit))) ≡ tellNext reading port (now («data» .entry)) (now (at .entry)) ⌝ }
-{
-    match step_from(data, reading, port, *at) {
-        Step::Payload(place, next) => {
-            *at = next.at;
-            tell_payload(place, start, len, seconds, fraction, unit);
-            true
-        }
-        Step::End => {
-            tell_payload(Place::nowhere(), start, len, seconds, fraction, unit);
-            false
-        }
     }
 }
 
@@ -191,6 +114,30 @@ fn moved_on(cursor: Cursor, at: usize) -> Cursor
         cursor
     } else {
         cursor.moved_to(at)
+    }
+}
+
+fn tell_step(
+    step: Step,
+    at: &mut usize,
+    start: &mut usize,
+    len: &mut usize,
+    seconds: &mut u32,
+    fraction: &mut u32,
+    unit: &mut u8,
+) -> bool
+    ensures { λ r. ⌜ (r, now (at .exit), payloadTold (now (start .exit)) (now (len .exit)) (now (seconds .exit), now (fraction .exit), now (unit .exit))) ≡ tellStep (now (at .entry)) step ⌝ }
+{
+    match step {
+        Step::Payload(place, next) => {
+            *at = next.at;
+            tell_payload(place, start, len, seconds, fraction, unit);
+            true
+        }
+        Step::End => {
+            tell_payload(Place::nowhere(), start, len, seconds, fraction, unit);
+            false
+        }
     }
 }
 

@@ -100,10 +100,11 @@ fn time_at(data: &[u8], at: usize, format: RecordFormat) -> Timestamp
     requires { ⌜ at + 16 ≤ length (now «data») ⌝ }
     ensures { λ r. ⌜ r ≡ timeAt format (now («data» .entry)) at ⌝ }
 {
+    let fraction_at = at + 4;
     let unit = format.unit;
     Timestamp {
         seconds: u32_at(data, at, format.big_endian),
-        fraction: u32_at(data, at + 4, format.big_endian),
+        fraction: u32_at(data, fraction_at, format.big_endian),
         unit,
     }
 }
