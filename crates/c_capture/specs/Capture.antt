@@ -20,7 +20,8 @@ pub data PayloadTold : Type 0 where
 abbrev pub tellPayload : Place → PayloadTold
 tellPayload p = payloadTold (p .start) (p .len) (timeNumbers (p .time))
 
--- The number that the capture's checks give, and the payload of a rank: all 0 where there is none.
+-- The number that the capture's checks give, and what is told of the payload of a rank, which is all 0 where there is
+-- none.
 unfoldable pub tellPlace : Reading → ℕ → ℕ → List ℕ → ℕ × PayloadTold
 tellPlace reading port rank bytes = (firstRefusal (checks reading bytes), tellPayload (placeOf reading port rank bytes))
 

@@ -1,5 +1,5 @@
 -- A law that a promise rests on: the time that is told with a payload is the one that the header of its record states, for any reading and any port (`told`), by
--- rank and by step. Without a payload no time is told. Assumes nothing.
+-- rank and by step. Without a payload it is 0, in microseconds. Assumes nothing.
 use Prim.Native.Nat.{ℕ, _+_, _≤_}
 use native.Mathlib.Omega.{arith}
 use mathlib.Core.Path.{_≡_, refl, sym, ap, subst}

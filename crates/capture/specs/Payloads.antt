@@ -91,8 +91,8 @@ startCursor reading port bytes = record { at = 24; port = port; reading = readin
 abbrev pub movedTo : Cursor → ℕ → Cursor
 movedTo cursor at = record { at = at; port = cursor .port; reading = cursor .reading; format = cursor .format }
 
--- What the records from a cursor on yield, and the places of the payloads. Port, reading and how records are written are
--- the cursor's: the file header is not looked at again.
+-- What the records from a cursor on yield, and the places of the payloads. Port, reading and the records' format are the
+-- cursor's: the file header is not looked at again.
 abbrev pub yieldsAfter : Cursor → List ℕ → List Yield
 yieldsAfter cursor bytes = yieldsFrom (cursor .reading) (cursor .format) (cursor .port) bytes (cursor .at)
 

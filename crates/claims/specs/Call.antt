@@ -9,6 +9,7 @@ use Rattle.units.specs.Conversions.{metresOfTwoMillimetres, metresOfMillimetres
 use Rattle.points.specs.ReadInto.{Outcome, tooLong, firstRefusal, numberGiven, mapOutcome, over, readInto}
 use Rattle.points.specs.Tabulate.{tabulate, gather}
 use Rattle.record_rule.specs.declared.reading.Reading.{Reading}
+use Rattle.record_rule.specs.declared.time.TimeUnit.{TimeUnit}
 use Rattle.capture.specs.declared.walk.Place.{Place}
 use Rattle.record_rule.specs.Ethernet.{etherType, ipStart}
 use Rattle.record_rule.specs.Ipv4.{version, ihl, protocol, udpStart}
@@ -50,6 +51,8 @@ pub data Call : Type 0 where
   place : Placing.Asked → ℕ → ℕ → ℕ → Call
   -- The length that the first record of a capture states: the reading, and the file.
   firstLength : Reading → List ℕ → Call
+  -- The payload of a rank: the reading, the port, the rank, and the file.
+  payloadOf : Reading → ℕ → ℕ → List ℕ → Call
 
 -- A payload: where the header of its record stands, where it starts, and its bytes.
 pub data Payload : Type 0 where
@@ -68,6 +71,11 @@ pub data Told : Type 0 where
   placed : ℕ → ℤ → ℕ → Told
   -- The length that a record states.
   lengthStated : ℕ → Told
+  -- The bytes of the part that is handed back, and its time: seconds, fraction, unit.
+  part : List ℕ → ℕ → ℕ → TimeUnit → Told
+
+abbrev partAt : List ℕ → Place → Told
+partAt bytes p = part (bytesAt bytes p) (p .time .seconds) (p .time .fraction) (p .time .unit)
 
 abbrev placedAs : ℤ → Placing.Placement → Told
 placedAs micrometres (Placing.told x) = placed 0 micrometres (toBits binary32 x)
@@ -75,7 +83,7 @@ placedAs micrometres (Placing.refused number) = placed number micrometres 0
 
 -- The unfolding line names all that these definitions compute by, so that a proof unfolds `tell` alone.
 unfoldable pub tell : Call → Told
-unfolding flatMap ofBits toBits unsignedAt over firstRefusal readInto Kitti.checks Kitti.points Savefile.bigEndian Savefile.checks etherType ipStart version ihl protocol udpStart destinationPort payloadStart payloadLen verdict opening placesFrom Payloads.payloads Savefile.fileChecks numberGiven noPayload pointsIn tabulate gather round ofInt add sub mul div lt le metresOfTwoMillimetres degreesByDivision halfStepBetween turned vlp16Vert hdl32eVert linear linearElevations Packet.packetPoints Velodyne.checks signed metresOfMillimetres Header.checks Livox.points Livox.pointBits Livox.frames Placing.pulses Placing.exactOf Placing.metres Placing.checksOf Placing.place
+unfolding flatMap ofBits toBits unsignedAt over firstRefusal readInto Kitti.checks Kitti.points Savefile.formatOf Savefile.checks etherType ipStart version ihl protocol udpStart destinationPort payloadStart payloadLen verdict opening placesFrom Payloads.payloads Payloads.placeOf Savefile.fileChecks numberGiven noPayload pointsIn tabulate gather round ofInt add sub mul div lt le metresOfTwoMillimetres degreesByDivision halfStepBetween turned vlp16Vert hdl32eVert linear linearElevations Packet.packetPoints Velodyne.checks signed metresOfMillimetres Header.checks Livox.points Livox.pointBits Livox.frames Placing.pulses Placing.exactOf Placing.metres Placing.checksOf Placing.place
 tell (kitti byValue bytes numbers kinds) = reading (mapOutcome (toBits binary32) (Kitti.readKitti bytes (map (ofBits binary32) numbers) kinds))
 tell (kitti byPattern bytes numbers kinds) = reading (Kitti.readKittiBits bytes numbers kinds)
 tell (lvx byValue bytes numbers kinds) = reading (mapOutcome (toBits binary32) (Livox.readLivox Lvx bytes (map (ofBits binary32) numbers) kinds))
@@ -86,4 +94,5 @@ tell (capture r port bytes) = payloads (opening r port bytes .0) (map (payloadAt
 tell (velodynePacket bytes numbers kinds) = reading (mapOutcome (toBits binary32) (readInto (tooLong bytes ∷ []) (Packet.packetPoints bytes) 0 (map (ofBits binary32) numbers) kinds))
 tell (velodyne r bytes numbers kinds) = reading (mapOutcome (toBits binary32) (Velodyne.readVelodyne r bytes (map (ofBits binary32) numbers) kinds))
 tell (place asked count datum pulseLength) = placedAs (Placing.exactOf (asked .micrometres) count datum pulseLength) (Placing.place asked count datum pulseLength)
-tell (firstLength r bytes) = lengthStated (Savefile.capturedAt (Savefile.orderOf (Savefile.bigEndian r bytes)) bytes 24)
+tell (firstLength r bytes) = lengthStated (Savefile.capturedAt (Savefile.formatOf r bytes) bytes 24)
+tell (payloadOf r port rank bytes) = partAt bytes (Payloads.placeOf r port rank bytes)

@@ -18,11 +18,11 @@ unfoldable pub fileA1 : List ℕ
 unfolding dump
 fileA1 = dump 24 0xa1b2c3d4_00020004_00000000_00000000_00040000_00000001
 
-file4d : List ℕ
+unfoldable pub file4d : List ℕ
 unfolding dump
 file4d = dump 24 0x4d3cb2a1_02000400_00000000_00000000_00000400_01000000
 
-fileA1Nanoseconds : List ℕ
+unfoldable pub fileA1Nanoseconds : List ℕ
 unfolding dump
 fileA1Nanoseconds = dump 24 0xa1b23c4d_00020004_00000000_00000000_00040000_00000001
 
@@ -48,13 +48,18 @@ oneByte : List ℕ
 unfolding dump
 oneByte = dump 31 0x0800_4500001d_00010000_4011b85e_c0a801c9_ffffffff_09400940_00090000_ab
 
+-- The 43 bytes of a record that has that one.
+unfoldable pub captured43 : List ℕ
+unfolding addresses oneByte
+captured43 = addresses ++ oneByte
+
 record42 : List ℕ
 unfolding header addresses nothing
 record42 = header 42 ++ addresses ++ nothing
 
 unfoldable pub record43 : List ℕ
-unfolding header addresses oneByte
-record43 = header 43 ++ addresses ++ oneByte
+unfolding header captured43
+record43 = header 43 ++ captured43
 
 record46 : List ℕ
 unfolding header addresses tag nothing

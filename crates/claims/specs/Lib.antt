@@ -6,4 +6,5 @@ pub mod Kitti
 pub mod Livox
 pub mod Placing
 pub mod Row
+pub mod Time
 pub mod Velodyne

@@ -4,12 +4,12 @@ use Rattle.record_rule.specs.declared.time.TimeUnit.{TimeUnit}
 use Rattle.record_rule.specs.declared.time.TimeUnit.the-variants.{Microseconds, Nanoseconds}
 use Rattle.record_rule.specs.declared.time.Timestamp.{Timestamp}
 
--- The number that stands for a unit where it is told through a lent number.
+-- A unit as a number.
 abbrev pub unitNumber : TimeUnit → ℕ
 unitNumber Microseconds = 0
 unitNumber Nanoseconds = 1
 
--- The three lent numbers of a time: seconds, fraction, unit.
+-- A time as three numbers: seconds, fraction, unit.
 abbrev pub timeNumbers : Timestamp → ℕ × ℕ × ℕ
 timeNumbers t = (t .seconds, t .fraction, unitNumber (t .unit))
 

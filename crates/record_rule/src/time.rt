@@ -3,7 +3,7 @@
 ghost use mathlib.Core.Path.{_≡_};
 ghost use Rattle.record_rule.specs.Time.{unitNumber, timeNumbers};
 
-// What a fraction counts.
+// The unit of a fraction.
 pub enum TimeUnit {
     Microseconds,
     Nanoseconds,

@@ -26,8 +26,8 @@ leastFirstMagic bytes = eqb (unsignedAt big 4 bytes 0) 0xd4c3b2a1 || eqb (unsign
 unfoldable pub mostFirstMagic : List ℕ → Bool
 mostFirstMagic bytes = eqb (unsignedAt big 4 bytes 0) 0xa1b2c3d4 || eqb (unsignedAt big 4 bytes 0) 0xa1b23c4d
 
--- Whether the numbers of a record's header are big-endian. The format writes the magic in the file's own byte order; the Rust takes it
--- the other way round.
+-- Whether the numbers of a record's header are big-endian. The format writes the magic in the file's own byte order;
+-- the Rust takes it the other way round.
 abbrev pub bigEndianBy : Reading → Bool → Bool
 bigEndianBy Rust leastFirst = leastFirst
 bigEndianBy Savefile leastFirst = not leastFirst
@@ -40,8 +40,7 @@ orderOf false = little
 unfoldable pub nanosecondMagic : List ℕ → Bool
 nanosecondMagic bytes = eqb (unsignedAt big 4 bytes 0) 0x4d3cb2a1 || eqb (unsignedAt big 4 bytes 0) 0xa1b23c4d
 
--- What the fractions of the records' times count, by the magic alone: the reading turns the byte order, and not the
--- unit.
+-- The unit of the records' fractions, by the magic alone: the reading decides the byte order, and not the unit.
 unfoldable pub unitOf : List ℕ → TimeUnit
 unfolding nanosecondMagic
 unitOf bytes = cond (nanosecondMagic bytes) Nanoseconds Microseconds

@@ -13,8 +13,8 @@ ghost use Rattle.fields.specs.Number.{unsignedAt, field};
 ghost use Rattle.savefile.specs.Savefile.{orderOf, bigEndianBy, formatBy, timeAt};
 ghost use Rattle.savefile.specs.Headers.{fileHeader, ofFileHeader, recordedAt};
 
-// How the records of a file are written, which its magic tells: whether their numbers are big-endian, and what the
-// fractions of their times count.
+// How the records of a file are written, which its magic tells: whether their numbers are big-endian, and the unit of
+// their fractions.
 pub struct RecordFormat {
     pub big_endian: bool,
     pub unit: TimeUnit,
