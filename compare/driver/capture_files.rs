@@ -24,6 +24,9 @@ const WRONG_MAGICS: [[u8; 4]; 6] = [
 /// Those of the two sensors, the first with its bytes swapped, and the ends of the range.
 const PORTS: [u16; 7] = [2368, 7502, 0x4009, 0, 1, 256, 65535];
 
+/// No time, the last fraction below a second and the first of a second, in either unit, and all bits.
+const TIMES: [u32; 6] = [0, 999_999, 1_000_000, 999_999_999, 1_000_000_000, u32::MAX];
+
 const FILE_HEADER: usize = 24;
 
 /// The first files are the same capture, cut at every length up to this.
@@ -35,6 +38,34 @@ pub struct Capture {
     pub data: Vec<u8>,
     /// The ports to ask for. 0 is always one of them.
     pub ports: Vec<u16>,
+    big_endian: bool,
+    /// Where the records' headers stand, or stood before the file was cut.
+    headers: Vec<usize>,
+}
+
+impl Capture {
+    /// Has each record state its time anew, often in numbers that are easy to get wrong. It is no part of
+    /// making the file, so that a seed still makes the same lines for `crates/cases`.
+    pub fn state_times(&mut self, random: &mut Random) {
+        for header in &self.headers {
+            for field in [*header, header + 4] {
+                let any = random.next() as u32;
+                let edge = random.pick(&TIMES);
+                let number = random.pick(&[any, edge]);
+                if let Some(bytes) = self.data.get_mut(field..field + 4) {
+                    bytes.copy_from_slice(&in_order(number, self.big_endian));
+                }
+            }
+        }
+    }
+}
+
+fn in_order(number: u32, big_endian: bool) -> [u8; 4] {
+    if big_endian {
+        number.to_be_bytes()
+    } else {
+        number.to_le_bytes()
+    }
 }
 
 /// The file of a case. Most are well-formed in the reading.
@@ -62,10 +93,7 @@ fn cut(random: &mut Random, case: u64, reading: Reading) -> Capture {
         maker.record(random, length as u32, &bytes);
     }
     maker.data.truncate((case % CUTS) as usize);
-    Capture {
-        data: maker.data,
-        ports: vec![0, 2368, 7502],
-    }
+    maker.capture(vec![0, 2368, 7502])
 }
 
 fn every_length(random: &mut Random, case: u64, reading: Reading) -> Capture {
@@ -78,10 +106,7 @@ fn every_length(random: &mut Random, case: u64, reading: Reading) -> Capture {
         let bytes = frame.bytes(random);
         maker.record(random, length as u32, &bytes);
     }
-    Capture {
-        data: maker.data,
-        ports: vec![0, 2368, 7502],
-    }
+    maker.capture(vec![0, 2368, 7502])
 }
 
 fn any(random: &mut Random, reading: Reading) -> Capture {
@@ -119,18 +144,17 @@ fn any(random: &mut Random, reading: Reading) -> Capture {
         };
         maker.record(random, stated, &bytes);
     }
-    let mut data = maker.data;
+    let data = &mut maker.data;
     match random.below(20) {
         0 | 1 => data.truncate(random.below(data.len() + 1)),
         2 => data.extend((0..random.below(60)).map(|i| i as u8)),
-        3 => damage(random, &mut data, FILE_HEADER),
+        3 => damage(random, data, FILE_HEADER),
         // Noise after a good header.
         4 => data[FILE_HEADER..].fill_with(|| random.next() as u8),
         5 => data[FILE_HEADER..].fill_with(|| random.below(3) as u8),
         _ => {}
     }
-    let asked = vec![0, random.pick(&ports), random.pick(&PORTS)];
-    Capture { data, ports: asked }
+    maker.capture(vec![0, random.pick(&ports), random.pick(&PORTS)])
 }
 
 /// A capture of packets, of which most are sent to the port. It is well-formed in the reading, or has
@@ -209,15 +233,20 @@ impl Maker {
 
     fn record(&mut self, random: &mut Random, stated: u32, bytes: &[u8]) {
         self.headers.push(self.data.len());
-        // The time and the original length are never looked at.
+        // Any time. The original length is never looked at.
         self.data.extend(random.next().to_le_bytes());
-        self.data.extend(if self.big_endian {
-            stated.to_be_bytes()
-        } else {
-            stated.to_le_bytes()
-        });
+        self.data.extend(in_order(stated, self.big_endian));
         self.data.extend((random.next() as u32).to_le_bytes());
         self.data.extend(bytes);
+    }
+
+    fn capture(self, ports: Vec<u16>) -> Capture {
+        Capture {
+            data: self.data,
+            ports,
+            big_endian: self.big_endian,
+            headers: self.headers,
+        }
     }
 
     /// Near the true length, past every file's end, and so large that a sum of 32 bits wraps.

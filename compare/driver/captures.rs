@@ -1,15 +1,15 @@
-//! Captures: the payloads in each reading, found by rank and by steps.
+//! Captures: the payloads in each reading with their times, found by rank and by steps.
 
 use crate::capture_files;
 use crate::long::{untouched, TOO_LONG};
-use crate::original::Original;
-use crate::ours::{self, Ranked, Stepped};
+use crate::original::{self, Original};
+use crate::ours::{self, Ranked, Stepped, Told};
 use crate::random::Random;
 use crate::tally::Tally;
-use crate::words::{self, Reading};
-use std::ops::Range;
+use crate::words::{self, Payload, Reading};
 
-/// The Rust's reading, named and as the usual one, against the original.
+/// The Rust's reading, named and as the usual one, against the original, which tells no times: these are
+/// held to the paper's words.
 pub fn compare(original: &Original, seed: u64, files: u64) -> Tally {
     let mut tally = Tally::new("captures", seed);
     for_each_file(
@@ -20,13 +20,9 @@ pub fn compare(original: &Original, seed: u64, files: u64) -> Tally {
         |data, ports, random| {
             let told = original.payloads(data, ports);
             for (&port, told) in std::iter::zip(ports, told) {
-                let payloads = told.as_deref().unwrap_or(&[]);
                 let expected = Expected {
                     number: told.as_ref().err().copied().unwrap_or(0),
-                    places: payloads
-                        .iter()
-                        .map(|p| p.start..p.start + p.bytes.len())
-                        .collect(),
+                    payloads: with_times(data, port, told.as_deref().unwrap_or(&[]))?,
                 };
                 for savefile in [Some(false), None] {
                     let call = Call {
@@ -36,12 +32,6 @@ pub fn compare(original: &Original, seed: u64, files: u64) -> Tally {
                         port,
                     };
                     call.hold(&expected, random)?;
-                }
-                // Ours stand in the same places, where the data has to hold what the original copied.
-                for payload in payloads {
-                    if data[payload.start..][..payload.bytes.len()] != payload.bytes {
-                        return Err(format!("the bytes from {} on differ", payload.start));
-                    }
                 }
             }
             Ok(())
@@ -63,7 +53,7 @@ pub fn compare_savefile(seed: u64, files: u64) -> Tally {
             for &port in ports {
                 let expected = Expected {
                     number: words::number(data),
-                    places: words::payloads(data, Reading::Savefile, port, 0),
+                    payloads: words::payloads(data, Reading::Savefile, port, 0),
                 };
                 let call = Call {
                     data,
@@ -88,7 +78,9 @@ fn for_each_file(
     compare: impl Fn(&[u8], &[u16], &mut Random) -> Result<(), String>,
 ) {
     for case in 0..files {
-        let capture = capture_files::file(&mut Random::of_case(seed, case), case, reading);
+        let mut random = Random::of_case(seed, case);
+        let mut capture = capture_files::file(&mut random, case, reading);
+        capture.state_times(&mut random);
         tally.file(case, &capture.data, |data| {
             // A generator of its own, so that a shorter file is tried in the same way.
             let mut random = Random::of_case(!seed, case);
@@ -101,10 +93,48 @@ fn for_each_file(
     }
 }
 
+/// The original's payloads with the times by the paper's words, which have to find the same bytes in the
+/// same places.
+pub fn with_times(
+    data: &[u8],
+    port: u16,
+    originals: &[original::Payload],
+) -> Result<Vec<Payload>, String> {
+    let payloads = words::payloads(data, Reading::Rust, port, 0);
+    let same = |(payload, original): (&Payload, &original::Payload)| {
+        payload.place.start == original.start && data[payload.place.clone()] == original.bytes
+    };
+    if payloads.len() == originals.len() && std::iter::zip(&payloads, originals).all(same) {
+        Ok(payloads)
+    } else {
+        Err(format!("port {port}: the words and the original differ"))
+    }
+}
+
+/// What is to be told of a payload, or that there is none.
+pub fn told(payload: Option<&Payload>) -> Told {
+    payload.map_or(Told::default(), |payload| Told {
+        start: payload.place.start,
+        len: payload.place.len(),
+        seconds: payload.seconds,
+        fraction: payload.fraction,
+        unit: u8::from(payload.nanoseconds),
+    })
+}
+
+/// The step from a place to a payload, which runs to its record's end. Without one, the place stays.
+fn stepped(at: usize, payload: Option<&Payload>) -> Stepped {
+    Stepped {
+        found: payload.is_some(),
+        at: payload.map_or(at, |payload| payload.place.end),
+        told: told(payload),
+    }
+}
+
 /// What a capture means for a port.
 struct Expected {
     number: u8,
-    places: Vec<Range<usize>>,
+    payloads: Vec<Payload>,
 }
 
 struct Call<'a> {
@@ -131,18 +161,16 @@ impl Call<'_> {
 
     /// Some ranks, the last, the one beyond it, and some far beyond.
     fn hold_ranks(&self, expected: &Expected, random: &mut Random) -> Result<(), String> {
-        let count = expected.places.len();
+        let count = expected.payloads.len();
         let mut ranks: Vec<usize> = (0..count.min(4)).collect();
         if count > 4 {
             ranks.extend([random.below(count), random.below(count), count - 1]);
         }
         ranks.extend([count, count + 1 + random.below(9), usize::MAX]);
         for rank in ranks {
-            let place = expected.places.get(rank).cloned().unwrap_or(0..0);
             let want = Ranked {
                 number: expected.number,
-                start: place.start,
-                len: place.len(),
+                told: told(expected.payloads.get(rank)),
             };
             let got = ours::payload_place(self.data, self.savefile, self.port, rank);
             if got != want {
@@ -156,20 +184,14 @@ impl Call<'_> {
     fn hold_steps(&self, expected: &Expected, random: &mut Random) -> Result<(), String> {
         // Anything in the file header means the first record.
         let mut at = random.pick(&[0, 0, 1, 8, 16, 23, 24]);
-        for (rank, place) in expected.places.iter().enumerate() {
-            // A payload runs to its record's end.
-            let want = Stepped {
-                found: true,
-                at: place.end,
-                start: place.start,
-                len: place.len(),
-            };
+        for (rank, payload) in expected.payloads.iter().enumerate() {
+            let want = stepped(at, Some(payload));
             self.hold_step(at, want)
                 .map_err(|what| format!("payload {rank}: {what}"))?;
             at = want.at;
         }
         for _ in 0..2 {
-            self.hold_step(at, none_from(at))
+            self.hold_step(at, stepped(at, None))
                 .map_err(|what| format!("after the last payload: {what}"))?;
         }
         Ok(())
@@ -182,14 +204,8 @@ impl Call<'_> {
             1 => self.data.len().saturating_sub(random.below(70)),
             _ => random.below(self.data.len() + 40),
         };
-        let places = words::payloads(self.data, self.reading, self.port, at);
-        let want = places.first().map_or(none_from(at), |place| Stepped {
-            found: true,
-            at: place.end,
-            start: place.start,
-            len: place.len(),
-        });
-        self.hold_step(at, want)
+        let payloads = words::payloads(self.data, self.reading, self.port, at);
+        self.hold_step(at, stepped(at, payloads.first()))
     }
 
     fn hold_step(&self, at: usize, want: Stepped) -> Result<(), String> {
@@ -202,32 +218,30 @@ impl Call<'_> {
     }
 }
 
-fn none_from(at: usize) -> Stepped {
-    Stepped {
-        found: false,
-        at,
-        start: 0,
-        len: 0,
-    }
-}
-
 /// One record as long as the data allows, around refusal 1. The original has no such limit.
 fn long_data(reading: Reading) -> Result<(), String> {
     let data = untouched(TOO_LONG + 1)?;
-    let most_first = [0xa1, 0xb2, 0xc3, 0xd4];
+    let most_first = [0xa1, 0xb2, 0x3c, 0x4d];
     let length = (TOO_LONG - 1 - 40) as u32;
-    let (savefile, stated) = match reading {
-        Reading::Rust => (Some(false), length.to_le_bytes()),
-        Reading::Savefile => (Some(true), length.to_be_bytes()),
+    let (savefile, stated, seconds, fraction) = match reading {
+        Reading::Rust => (Some(false), length.to_le_bytes(), 0x6745_2301, 0xdebc_0a00),
+        Reading::Savefile => (Some(true), length.to_be_bytes(), 0x0123_4567, 0x000a_bcde),
+    };
+    let longest = Payload {
+        place: 82..TOO_LONG - 1,
+        seconds,
+        fraction,
+        nanoseconds: true,
     };
     data[..4].copy_from_slice(&most_first);
+    data[24..32].copy_from_slice(&[0x01, 0x23, 0x45, 0x67, 0x00, 0x0a, 0xbc, 0xde]);
     data[32..36].copy_from_slice(&stated);
     data[40 + 12..40 + 14].copy_from_slice(&[0x08, 0x00]);
     data[40 + 14] = 0x45;
     data[40 + 23] = 17;
-    for (length, number, places) in [
+    for (length, number, payloads) in [
         (TOO_LONG - 2, 0, vec![]),
-        (TOO_LONG - 1, 0, vec![82..TOO_LONG - 1]),
+        (TOO_LONG - 1, 0, vec![longest]),
         (TOO_LONG, 1, vec![]),
         (TOO_LONG + 1, 1, vec![]),
     ] {
@@ -237,7 +251,7 @@ fn long_data(reading: Reading) -> Result<(), String> {
             savefile,
             port: 0,
         };
-        let expected = Expected { number, places };
+        let expected = Expected { number, payloads };
         let mut random = Random::of_case(0, 0);
         call.hold_ranks(&expected, &mut random)
             .and_then(|()| call.hold_steps(&expected, &mut random))

@@ -10,7 +10,7 @@ use crate::reading::{Expected, CARTESIAN};
 use crate::stored::StoredReading;
 use crate::tally::Tally;
 use crate::words::{self, Reading};
-use crate::{kitti, ours, ouster, placing, velodyne};
+use crate::{captures, kitti, ours, ouster, placing, velodyne};
 
 /// A list that a program runs, what it is to write, and the name under which more lines are made.
 pub struct List {
@@ -298,7 +298,7 @@ impl Case<'_> {
             "ouster" => self.read(self.ouster(original, self.settings()), true),
             "os1-64" => self.read(self.ouster(original, original::os1_64()), true),
             "os-128" => self.read(self.ouster(original, original::os_128()), true),
-            "payload" => self.payload(),
+            "payload" => self.payload(original)?,
             "lvx-rank" => self.rank(original, Form::Lvx),
             "lvx2-rank" => self.rank(original, Form::Lvx2),
             call => return Err(format!("no such call: {call}")),
@@ -366,15 +366,27 @@ impl Case<'_> {
         line
     }
 
-    fn payload(&self) -> String {
+    fn payload(&self, original: &Original) -> Result<String, String> {
         let (port, rank) = (self.number(2) as u16, self.number(3) as usize);
-        let places = words::payloads(&self.data, self.reading(1), port, 0);
-        let place = places.get(rank).cloned().unwrap_or(0..0);
-        let hex: String = self.data[place.clone()]
+        let payloads = match self.reading(1) {
+            Reading::Rust => {
+                let told = original.payloads(&self.data, &[port]).remove(0);
+                captures::with_times(&self.data, port, told.as_deref().unwrap_or(&[]))?
+            }
+            Reading::Savefile => words::payloads(&self.data, Reading::Savefile, port, 0),
+        };
+        let ours::Told {
+            start,
+            len,
+            seconds,
+            fraction,
+            unit,
+        } = captures::told(payloads.get(rank));
+        let hex: String = self.data[start..start + len]
             .iter()
             .map(|byte| format!("{byte:02x}"))
             .collect();
-        format!("{} {} {hex}", place.start, place.len())
+        Ok(format!("{start} {len} {seconds} {fraction} {unit} {hex}"))
     }
 
     fn belt(&self, first: usize) -> Belt {

@@ -150,6 +150,9 @@ extern "C" {
         rank: usize,
         start: *mut usize,
         len: *mut usize,
+        seconds: *mut u32,
+        fraction: *mut u32,
+        unit: *mut u8,
     ) -> u8;
 
     fn lidar_payload_place(
@@ -159,6 +162,9 @@ extern "C" {
         rank: usize,
         start: *mut usize,
         len: *mut usize,
+        seconds: *mut u32,
+        fraction: *mut u32,
+        unit: *mut u8,
     ) -> u8;
 
     fn lidar_next_payload_as(
@@ -169,6 +175,9 @@ extern "C" {
         at: *mut usize,
         start: *mut usize,
         len: *mut usize,
+        seconds: *mut u32,
+        fraction: *mut u32,
+        unit: *mut u8,
     ) -> bool;
 
     fn lidar_next_payload(
@@ -178,6 +187,9 @@ extern "C" {
         at: *mut usize,
         start: *mut usize,
         len: *mut usize,
+        seconds: *mut u32,
+        fraction: *mut u32,
+        unit: *mut u8,
     ) -> bool;
 }
 
@@ -376,12 +388,30 @@ fn made_ready(
     settings
 }
 
+/// What a call tells of a payload. Where there is none, all is 0.
+#[derive(Clone, Copy, Debug, Default, PartialEq, Eq)]
+pub struct Told {
+    pub start: usize,
+    pub len: usize,
+    pub seconds: u32,
+    pub fraction: u32,
+    pub unit: u8,
+}
+
+/// What the numbers hold before a call, so that one which is not written shows.
+const UNTOLD: Told = Told {
+    start: 6_666_666_666_666_666_666,
+    len: 4_444_444_444_444_444_444,
+    seconds: 3_333_333_333,
+    fraction: 2_222_222_222,
+    unit: 111,
+};
+
 /// What a call by rank gives back.
 #[derive(Clone, Copy, Debug, PartialEq, Eq)]
 pub struct Ranked {
     pub number: u8,
-    pub start: usize,
-    pub len: usize,
+    pub told: Told,
 }
 
 /// What a step gives back, with `at` as the call leaves it.
@@ -389,49 +419,75 @@ pub struct Ranked {
 pub struct Stepped {
     pub found: bool,
     pub at: usize,
-    pub start: usize,
-    pub len: usize,
+    pub told: Told,
 }
-
-/// `start` and `len` hold these before a call.
-const NO_START: usize = 6_666_666_666_666_666_666;
-const NO_LEN: usize = 4_444_444_444_444_444_444;
 
 /// A call by rank. Without `savefile` the reading is the usual one.
 pub fn payload_place(data: &[u8], savefile: Option<bool>, port: u16, rank: usize) -> Ranked {
-    let (mut start, mut len) = (NO_START, NO_LEN);
-    let (bytes, bytes_len) = (data.as_ptr(), data.len());
-    // SAFETY: pointer and length come from one slice, and the other pointers from locals.
+    let mut told = UNTOLD;
+    // SAFETY: pointer and length come from one slice, and the other pointers are of fields of a local.
     let number = unsafe {
         match savefile {
-            Some(savefile) => {
-                lidar_payload_place_as(bytes, bytes_len, savefile, port, rank, &mut start, &mut len)
-            }
-            None => lidar_payload_place(bytes, bytes_len, port, rank, &mut start, &mut len),
+            Some(savefile) => lidar_payload_place_as(
+                data.as_ptr(),
+                data.len(),
+                savefile,
+                port,
+                rank,
+                &mut told.start,
+                &mut told.len,
+                &mut told.seconds,
+                &mut told.fraction,
+                &mut told.unit,
+            ),
+            None => lidar_payload_place(
+                data.as_ptr(),
+                data.len(),
+                port,
+                rank,
+                &mut told.start,
+                &mut told.len,
+                &mut told.seconds,
+                &mut told.fraction,
+                &mut told.unit,
+            ),
         }
     };
-    Ranked { number, start, len }
+    Ranked { number, told }
 }
 
 /// A step from `at` on. Without `savefile` the reading is the usual one.
 pub fn next_payload(data: &[u8], savefile: Option<bool>, port: u16, mut at: usize) -> Stepped {
-    let (mut start, mut len) = (NO_START, NO_LEN);
-    let (bytes, bytes_len) = (data.as_ptr(), data.len());
+    let mut told = UNTOLD;
     // SAFETY: as in payload_place.
     let found = unsafe {
         match savefile {
             Some(savefile) => lidar_next_payload_as(
-                bytes, bytes_len, savefile, port, &mut at, &mut start, &mut len,
+                data.as_ptr(),
+                data.len(),
+                savefile,
+                port,
+                &mut at,
+                &mut told.start,
+                &mut told.len,
+                &mut told.seconds,
+                &mut told.fraction,
+                &mut told.unit,
             ),
-            None => lidar_next_payload(bytes, bytes_len, port, &mut at, &mut start, &mut len),
+            None => lidar_next_payload(
+                data.as_ptr(),
+                data.len(),
+                port,
+                &mut at,
+                &mut told.start,
+                &mut told.len,
+                &mut told.seconds,
+                &mut told.fraction,
+                &mut told.unit,
+            ),
         }
     };
-    Stepped {
-        found,
-        at,
-        start,
-        len,
-    }
+    Stepped { found, at, told }
 }
 
 /// What is asked beside the point: the count, the datum and the pulse length.

@@ -1,6 +1,6 @@
-//! The payloads of a capture by the words of 01-scope.md, written apart from the original and from
-//! ours. It stands in for an oracle where the original has none: the savefile reading, and a walk that
-//! starts at any place.
+//! The payloads of a capture by the words of 01-scope.md, and their times by those of
+//! 02-change-requests.md, written apart from the original and from ours. It stands in for an oracle where
+//! the original has none: the savefile reading, a walk that starts at any place, and every time.
 
 use crate::ours::OusterSettings;
 use std::ops::Range;
@@ -22,27 +22,43 @@ pub fn number(data: &[u8]) -> u8 {
     }
 }
 
+/// A payload, and the time that its record states.
+pub struct Payload {
+    pub place: Range<usize>,
+    pub seconds: u32,
+    /// As stored, so it may be a second or more.
+    pub fraction: u32,
+    pub nanoseconds: bool,
+}
+
 /// The payloads from a place on. A place in the file header means the first record.
-pub fn payloads(data: &[u8], reading: Reading, port: u16, from: usize) -> Vec<Range<usize>> {
+pub fn payloads(data: &[u8], reading: Reading, port: u16, from: usize) -> Vec<Payload> {
     let mut found = Vec::new();
     if number(data) != 0 {
         return found;
     }
     let least_first = matches!(data[0], 0xd4 | 0x4d);
-    let length_of = match (reading, least_first) {
+    let u32_of = match (reading, least_first) {
         (Reading::Rust, true) | (Reading::Savefile, false) => u32::from_be_bytes,
         (Reading::Rust, false) | (Reading::Savefile, true) => u32::from_le_bytes,
     };
+    // The magic says it, whatever the reading.
+    let nanoseconds = matches!(data[..4], [0x4d, 0x3c, ..] | [.., 0x3c, 0x4d]);
     let mut rest = from.max(24)..data.len();
     while rest.len() >= 16 {
-        let start = rest.start + 16;
-        let stated = data[rest.start + 8..rest.start + 12].try_into().unwrap();
-        let end = start + length_of(stated) as usize;
+        let (header, start) = (rest.start, rest.start + 16);
+        let field = |at: usize| u32_of(data[header + at..][..4].try_into().unwrap());
+        let end = start + field(8) as usize;
         let Some(record) = data.get(start..end) else {
             break;
         };
         if let Some(skipped) = payload_in(record, reading, port) {
-            found.push(start + skipped..end);
+            found.push(Payload {
+                place: start + skipped..end,
+                seconds: field(0),
+                fraction: field(4),
+                nanoseconds,
+            });
         }
         rest.start = end;
     }
@@ -74,10 +90,10 @@ fn payload_in(record: &[u8], reading: Reading, port: u16) -> Option<usize> {
 
 /// A copy of each payload.
 pub fn copies(data: &[u8], reading: Reading, port: u16) -> Vec<Vec<u8>> {
-    let places = payloads(data, reading, port, 0);
-    places
+    let payloads = payloads(data, reading, port, 0);
+    payloads
         .into_iter()
-        .map(|place| data[place].to_vec())
+        .map(|payload| data[payload.place].to_vec())
         .collect()
 }
 
