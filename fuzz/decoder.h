@@ -1,5 +1,5 @@
-/* What a file means, told a second time: from the words of 01 and from nothing of the library, so that
-   values are held and not only that two builds agree. decoder/ has a file for each of 01's modules. */
+/* What a file means, told a second time: from the words of 01 and 02 and from nothing of the library, so
+   that values are held and not only that two builds agree. decoder/ has a file for each of 01's modules. */
 #ifndef DECODER_H
 #define DECODER_H
 
@@ -30,8 +30,11 @@ void decode_kitti(const uint8_t *bytes, size_t len, struct cloud *cloud);
 
 /* ---- captures */
 
+/* A payload, and the time that its record states. All is 0 where there is none. */
 struct payload {
     size_t start, len;
+    uint32_t seconds, fraction;
+    uint8_t unit;
 };
 
 uint8_t capture_number(const uint8_t *bytes, size_t len);

@@ -250,22 +250,60 @@ static void hold_livox(const struct run *run, bool lvx2)
 
 /* ---- captures */
 
+/* What a call tells of a payload: each number in the middle, with canaries around it. */
+struct told {
+    size_t at[3], start[3], len[3];
+    uint32_t seconds[3], fraction[3];
+    uint8_t unit[3];
+};
+
+/* Before a call, each number but the place is a canary too: none of them 0, and the unit's not 1. */
+static struct told untold(const struct run *run, size_t at)
+{
+    const size_t place = (size_t)run->canary << 32 | 0xa5a5a5a5;
+    const uint32_t time = run->canary | 0x80000000u;
+    const uint8_t unit = (uint8_t)(run->canary | 0x80);
+
+    return (struct told){
+        .at = {place, at, place},
+        .start = {place, place, place},
+        .len = {place, place, place},
+        .seconds = {time, time, time},
+        .fraction = {time, time, time},
+        .unit = {unit, unit, unit},
+    };
+}
+
+static void hold_told(const struct run *run, const struct told *told, size_t at,
+                      const struct payload *payload)
+{
+    const struct told before = untold(run, at);
+
+    HOLD(told->at[1] == at);
+    HOLD(told->start[1] == payload->start && told->len[1] == payload->len);
+    HOLD(told->seconds[1] == payload->seconds && told->fraction[1] == payload->fraction);
+    HOLD(told->unit[1] == payload->unit);
+#define KEPT(number) (told->number[0] == before.number[0] && told->number[2] == before.number[2])
+    HOLD(KEPT(at) && KEPT(start) && KEPT(len) && KEPT(seconds) && KEPT(fraction) && KEPT(unit));
+#undef KEPT
+}
+
+/* The numbers in the order in which every call takes them. */
+#define TOLD(told) \
+    &(told).start[1], &(told).len[1], &(told).seconds[1], &(told).fraction[1], &(told).unit[1]
+
 /* One step, from a place. */
 static bool hold_step(const struct run *run, uint16_t port, size_t *at, struct payload *payload)
 {
-    const size_t canary = (size_t)run->canary << 32 | 0xa5a5a5a5, from = *at;
+    struct told told = untold(run, *at), usual = told;
     bool found = decode_payload(run->data, run->len, run->savefile, port, at, payload);
-    size_t out[7] = {canary, from, canary, canary, canary, canary, canary};
 
-    HOLD(run->library->next_payload_as(run->data, run->len, run->savefile, port, &out[1], &out[3],
-                                       &out[5]) == found);
-    HOLD(out[1] == *at && out[3] == payload->start && out[5] == payload->len);
-    HOLD(out[0] == canary && out[2] == canary && out[4] == canary && out[6] == canary);
+    HOLD(run->library->next_payload_as(run->data, run->len, run->savefile, port, &told.at[1],
+                                       TOLD(told)) == found);
+    hold_told(run, &told, *at, payload);
     if (run->savefile == usual_is_savefile) {
-        size_t usual[3] = {from, canary, canary};
-        HOLD(run->library->next_payload(run->data, run->len, port, &usual[0], &usual[1], &usual[2]) ==
-             found);
-        HOLD(usual[0] == *at && usual[1] == payload->start && usual[2] == payload->len);
+        HOLD(run->library->next_payload(run->data, run->len, port, &usual.at[1], TOLD(usual)) == found);
+        hold_told(run, &usual, *at, payload);
     }
     return found;
 }
@@ -274,14 +312,14 @@ static bool hold_step(const struct run *run, uint16_t port, size_t *at, struct p
 static void hold_payload(const struct run *run, uint16_t port, size_t rank, const struct payload *payload)
 {
     uint8_t number = capture_number(run->data, run->len);
-    size_t out[4] = {3, 3, 3, 3};
+    struct told told = untold(run, 0), usual = told;
 
-    HOLD(run->library->payload_place_as(run->data, run->len, run->savefile, port, rank, &out[0],
-                                        &out[2]) == number);
-    HOLD(out[0] == payload->start && out[2] == payload->len && out[1] == 3 && out[3] == 3);
+    HOLD(run->library->payload_place_as(run->data, run->len, run->savefile, port, rank, TOLD(told)) ==
+         number);
+    hold_told(run, &told, 0, payload);
     if (run->savefile == usual_is_savefile) {
-        HOLD(run->library->payload_place(run->data, run->len, port, rank, &out[1], &out[3]) == number);
-        HOLD(out[1] == payload->start && out[3] == payload->len);
+        HOLD(run->library->payload_place(run->data, run->len, port, rank, TOLD(usual)) == number);
+        hold_told(run, &usual, 0, payload);
     }
 }
 
@@ -299,7 +337,7 @@ static void hold_packet(const struct run *run, const uint8_t *bytes, size_t len)
 /* All payloads by steps, and some by their ranks. */
 static void hold_payloads(const struct run *run, uint16_t port)
 {
-    const struct payload none = {0, 0};
+    const struct payload none = {0};
     struct payload payload, last = none;
     size_t at = 0, met = 0;
 

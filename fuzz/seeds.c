@@ -186,7 +186,7 @@ static void from_cases(const char *path)
 
 static uint8_t file[LONGEST];
 
-/* A capture's header. Its records' lengths are big-endian or not; by the magic, each of the four ways
+/* A capture's header. Its records' numbers are big-endian or not; by the magic, each of the four ways
    is taken by one reading alone. */
 static size_t capture(unsigned way)
 {
@@ -197,16 +197,31 @@ static size_t capture(unsigned way)
     return 24;
 }
 
+static void put_u32(uint8_t *at, bool big_endian, uint32_t number)
+{
+    put(at, 4, big_endian ? __builtin_bswap32(number) : number);
+}
+
+/* Of a record's time, often where a second ends in either unit, or where the number does. */
+static uint32_t any_time(void)
+{
+    static const uint32_t edges[6] = {0, 999999, 1000000, 999999999, 1000000000, UINT32_MAX};
+    uint64_t any = next(&random_state);
+
+    return any % 2 ? (uint32_t)(any >> 32) : edges[any / 2 % 6];
+}
+
 /* A record with one datagram to a port. Gives back where its payload stands. */
 static uint8_t *datagram(size_t *len, bool big_endian, bool tagged, unsigned port, size_t payload)
 {
     size_t ip = tagged ? 18 : 14, length = ip + 28 + payload;
     uint8_t *record = file + *len + 16;
-    uint32_t stated = big_endian ? __builtin_bswap32((uint32_t)length) : (uint32_t)length;
 
     memset(record - 16, 0, 16 + length);
-    put(record - 8, 4, stated);
-    put(record - 4, 4, stated);
+    put_u32(record - 16, big_endian, any_time());
+    put_u32(record - 12, big_endian, any_time());
+    put_u32(record - 8, big_endian, (uint32_t)length);
+    put_u32(record - 4, big_endian, (uint32_t)length);
     if (tagged)
         put(record + 12, 2, 0x0081);
     put(record + ip - 2, 2, 0x0008);
@@ -266,6 +281,19 @@ static void ouster(void)
     for (unsigned i = 0; i < 32; i++)
         ouster_capture(i / 4, i / 16, 1 + i % 2, 1 + i % 3, BEAMS_OF[i % 4]);
     ouster_capture(1, false, 1, 64, 16);
+}
+
+/* Captures of a few small payloads and their times, which each reading takes, on two ports in turn. */
+static void times(void)
+{
+    for (unsigned i = 0; i < 8; i++) {
+        size_t len = capture(i);
+        for (unsigned record = 0; record < 8; record++) {
+            size_t payload = record % 4;
+            put_random(datagram(&len, i / 4, record / 4, record % 3 ? 2368 : 7502, payload), payload);
+        }
+        write_seed(file, len, ask(7502, 1, 16));
+    }
 }
 
 static void kitti(void)
@@ -360,6 +388,7 @@ int main(int argc, char **argv)
         from_file(argv[i]);
     velodyne();
     ouster();
+    times();
     kitti();
     livox();
     livox_many();
