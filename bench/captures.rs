@@ -1,4 +1,4 @@
-//! Going through all payloads of a capture.
+//! Going through all payloads of a capture, with their times.
 
 use crate::files::{as_savefile, capture};
 use crate::timing::{medians, Way};
@@ -19,6 +19,9 @@ extern "C" {
         at: *mut usize,
         start: *mut usize,
         len: *mut usize,
+        seconds: *mut u32,
+        fraction: *mut u32,
+        unit: *mut u8,
     ) -> bool;
 
     #[cfg(libpcap)]
@@ -27,15 +30,17 @@ extern "C" {
         port: u16,
         count: *mut u64,
         sum: *mut u64,
+        times: *mut u64,
     ) -> std::ffi::c_int;
 }
 
-/// How many payloads there are, and the sum of their lengths and first bytes: every way has to find the
-/// same, and to look at each payload.
+/// How many payloads there are, the sum of their lengths and first bytes, and that of their times in
+/// microseconds: every way has to find the same, and to look at each payload and at its time.
 #[derive(Clone, Copy, Default, Debug, PartialEq)]
 pub struct Seen {
     count: u64,
     sum: u64,
+    times: u64,
 }
 
 impl Seen {
@@ -71,7 +76,11 @@ fn rows(file: &Path, rounds: usize, payload: usize) {
         ),
         (
             "the Rust, from bytes; it copies",
-            Box::new(|| rust(&for_rust)),
+            // It tells no times.
+            Box::new(|| Seen {
+                times: seen.times,
+                ..rust(&for_rust)
+            }),
         ),
     ];
     #[cfg(libpcap)]
@@ -103,6 +112,7 @@ pub fn made(size: usize, payload: usize) -> Vec<u8> {
 pub fn ours(data: &[u8], savefile: bool) -> Seen {
     let mut seen = Seen::default();
     let (mut at, mut start, mut len) = (0, 0, 0);
+    let (mut seconds, mut fraction, mut unit) = (0, 0, 0);
     // SAFETY: pointer and length come from one slice, and the other pointers from locals.
     while unsafe {
         lidar_next_payload_as(
@@ -113,9 +123,14 @@ pub fn ours(data: &[u8], savefile: bool) -> Seen {
             &mut at,
             &mut start,
             &mut len,
+            &mut seconds,
+            &mut fraction,
+            &mut unit,
         )
     } {
         seen.add(&data[start..start + len]);
+        // The unit is 0.
+        seen.times += u64::from(seconds) * 1_000_000 + u64::from(fraction) + u64::from(unit);
     }
     seen
 }
@@ -133,7 +148,15 @@ fn libpcap(file: &Path) -> Seen {
     let path = std::ffi::CString::new(file.to_str().expect("a plain path")).expect("a plain path");
     let mut seen = Seen::default();
     // SAFETY: the path ends in a zero byte, and the other pointers are from a local.
-    let opened = unsafe { libpcap_sum(path.as_ptr(), PORT, &mut seen.count, &mut seen.sum) };
+    let opened = unsafe {
+        libpcap_sum(
+            path.as_ptr(),
+            PORT,
+            &mut seen.count,
+            &mut seen.sum,
+            &mut seen.times,
+        )
+    };
     assert_eq!(opened, 1, "libpcap cannot open the capture");
     seen
 }

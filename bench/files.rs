@@ -6,7 +6,8 @@ pub const FOR_RUST: [u8; 4] = [0xa1, 0xb2, 0xc3, 0xd4];
 /// The magic by which a savefile has little-endian lengths.
 pub const SAVEFILE: [u8; 4] = [0xd4, 0xc3, 0xb2, 0xa1];
 
-/// A capture of datagrams to a port, with little-endian lengths. Each payload is made from its number.
+/// A capture of datagrams to a port, with little-endian lengths and times in microseconds. Each payload is
+/// made from its number.
 pub fn capture(size: usize, port: u16, mut payload: impl FnMut(u32) -> Vec<u8>) -> Vec<u8> {
     let mut data = Vec::with_capacity(size);
     // Version 2.4, no zone, the longest record, Ethernet.
@@ -21,7 +22,7 @@ pub fn capture(size: usize, port: u16, mut payload: impl FnMut(u32) -> Vec<u8>) 
             break;
         }
         data.extend(number.to_le_bytes());
-        data.extend([0; 4]);
+        data.extend((999_999 - number % 1_000_000).to_le_bytes());
         data.extend((length as u32).to_le_bytes());
         data.extend((length as u32).to_le_bytes());
         let record = data.len();

@@ -7,16 +7,16 @@ static unsigned u16_at(const u_char *bytes, unsigned at)
     return (unsigned)bytes[at] << 8 | bytes[at + 1];
 }
 
-/* Counts the payloads on a port, and adds up their lengths and first bytes. 0 where the file cannot be
-   opened. */
-int libpcap_sum(const char *path, uint16_t port, uint64_t *count, uint64_t *sum)
+/* Counts the payloads on a port, and adds up their lengths and first bytes, and their times in
+   microseconds. 0 where the file cannot be opened. */
+int libpcap_sum(const char *path, uint16_t port, uint64_t *count, uint64_t *sum, uint64_t *times)
 {
     char error[PCAP_ERRBUF_SIZE];
     struct pcap_pkthdr *header;
     const u_char *bytes;
     pcap_t *capture = pcap_open_offline(path, error);
 
-    *count = *sum = 0;
+    *count = *sum = *times = 0;
     if (!capture)
         return 0;
     while (pcap_next_ex(capture, &header, &bytes) == 1) {
@@ -33,6 +33,7 @@ int libpcap_sum(const char *path, uint16_t port, uint64_t *count, uint64_t *sum)
             continue;
         *count += 1;
         *sum += header->caplen - start + bytes[start];
+        *times += (uint64_t)header->ts.tv_sec * 1000000 + (uint64_t)header->ts.tv_usec;
     }
     pcap_close(capture);
     return 1;
