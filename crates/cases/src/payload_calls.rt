@@ -21,9 +21,7 @@ fn tell_usual(port: u16, rank: usize, data: &[u8]) {
     let mut fraction: u32 = 7;
     let mut unit: u8 = 7;
     let payload = lidar::payload(data, port, rank, &mut seconds, &mut fraction, &mut unit);
-    show::place(place.start, payload.len());
-    show::time(seconds, fraction, unit);
-    show::bytes(payload);
+    show::payload(place.start, seconds, fraction, unit, payload);
 }
 
 fn tell_as(reading: Reading, port: u16, rank: usize, data: &[u8]) {
@@ -40,7 +38,5 @@ fn tell_as(reading: Reading, port: u16, rank: usize, data: &[u8]) {
         &mut fraction,
         &mut unit,
     );
-    show::place(place.start, payload.len());
-    show::time(seconds, fraction, unit);
-    show::bytes(payload);
+    show::payload(place.start, seconds, fraction, unit, payload);
 }

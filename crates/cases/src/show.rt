@@ -37,23 +37,20 @@ fn write_bar(i: usize) {
     }
 }
 
-// Where a payload stands.
-pub(crate) fn place(start: usize, len: usize) {
+// Where a payload stands, its time as it is told through lent numbers, and its bytes.
+pub(crate) fn payload(start: usize, seconds: u32, fraction: u32, unit: u8, payload: &[u8]) {
     write_number(start as u64);
-    write_number(len as u64);
-}
-
-// A payload's time, as it is told through lent numbers.
-pub(crate) fn time(seconds: u32, fraction: u32, unit: u8) {
+    write_number(payload.len() as u64);
     write_number(seconds as u64);
     write_number(fraction as u64);
     write_number(unit as u64);
+    write(b" ");
+    write_bytes(payload);
 }
 
-pub(crate) fn bytes(payload: &[u8]) {
-    write(b" ");
-    for i in 0..payload.len() {
-        told(io::print_hex(STDOUT_FILENO, wide(payload[i]), 2));
+fn write_bytes(bytes: &[u8]) {
+    for i in 0..bytes.len() {
+        told(io::print_hex(STDOUT_FILENO, wide(bytes[i]), 2));
     }
 }
 

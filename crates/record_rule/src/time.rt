@@ -32,9 +32,9 @@ impl Timestamp {
     pub fn tell(self, seconds: &mut u32, fraction: &mut u32, unit: &mut u8)
         ensures { λ _. ⌜ (now (seconds .exit), now (fraction .exit), now (unit .exit)) ≡ timeNumbers self ⌝ }
     {
-        let of = self.unit;
+        let stated = self.unit;
         *seconds = self.seconds;
         *fraction = self.fraction;
-        *unit = of.number();
+        *unit = stated.number();
     }
 }

@@ -13,8 +13,8 @@ ghost use Rattle.fields.specs.Number.{unsignedAt, field};
 ghost use Rattle.savefile.specs.Savefile.{orderOf, bigEndianBy, formatBy, timeAt};
 ghost use Rattle.savefile.specs.Headers.{fileHeader, ofFileHeader, recordedAt};
 
-// How the records of a file are written, which its magic tells: whether their numbers are big-endian, and the unit of
-// their fractions.
+// How the records of a file are written: whether their numbers are big-endian, by the magic and the reading, and the unit
+// of their fractions, by the magic alone.
 pub struct RecordFormat {
     pub big_endian: bool,
     pub unit: TimeUnit,
@@ -54,7 +54,7 @@ pub fn file_header(data: &[u8], reading: Reading) -> FileHeader
     }
 }
 
-// The reading decides the byte order, and the magic alone the unit.
+// The reading turns the byte order of the magic, and not its unit.
 fn format_by(reading: Reading, least_first: bool, unit: TimeUnit) -> RecordFormat
     ensures { λ r. ⌜ r ≡ formatBy reading «least_first» unit ⌝ }
 {

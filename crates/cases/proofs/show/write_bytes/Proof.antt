@@ -1,20 +1,14 @@
--- `show::bytes` is safe and ends. Assumes nothing.
+-- `show::write_bytes` is safe and ends. Assumes nothing.
 use Prim.Native.Nat.{_-_}
 use borrow.Author.Needs.{needs}
-use Rattle.cases.proofs.show.bytes.Statement.{statement}
-use Rattle.cases.proofs.show.bytes.Tie as tie
+use Rattle.cases.proofs.show.write_bytes.Statement.{statement}
+use Rattle.cases.proofs.show.write_bytes.Tie as tie
 
 abbrev Inv-loop : tie.InvT-loop
-Inv-loop payload i₀ i-end i = Unit
+Inv-loop bytes i₀ i-end i = Unit
 
 abbrev μ-loop : tie.MeasureT-loop
-μ-loop payload i₀ i-end i = i-end - i
-
-slice-aggregate-write : tie.Need-slice-aggregate-write Inv-loop μ-loop
-slice-aggregate-write c = search needs
-
-write-requires : tie.Need-write-requires Inv-loop μ-loop
-write-requires c κs = search needs
+μ-loop bytes i₀ i-end i = i-end - i
 
 loop-holds : tie.Need-loop-holds Inv-loop μ-loop
 loop-holds c = search needs
@@ -43,14 +37,12 @@ loop-again c = search needs
 returns : tie.Need-returns Inv-loop μ-loop
 returns c = search needs
 
-pub bytes-spec : {M : Type 1} → statement M
-bytes-spec =
+pub write-bytes-spec : {M : Type 1} → statement M
+write-bytes-spec =
     tie.close
     (tie.spec
     Inv-loop
     μ-loop
-    slice-aggregate-write
-    write-requires
     loop-holds
     shared-slice-read-wide
     wide-requires
