@@ -1,5 +1,7 @@
 // The numbers a call may give back, by name.
 
+#![tactic(auto)]
+
 ghost use Rattle.std.specs.Prelude.{◌≡◌};
 ghost use Rattle.answers.specs.Answer.{refusal_number, refusal_points, number_of, points_of, frames_of};
 

@@ -1,5 +1,7 @@
 // Captures, as include/lidar.h declares the calls. What they tell of a payload goes out by reference.
 
+#![tactic(auto)]
+
 ghost use Rattle.std.specs.Prelude.{◌≡◌};
 ghost use Rattle.points.specs.ReadInto.{first_refusal};
 ghost use Rattle.record_rule.specs.Reading.{usual};

@@ -1,5 +1,7 @@
 // What the C forms share: the reading named by a bool, and a reader's answer told by reference.
 
+#![tactic(auto)]
+
 ghost use Rattle.std.specs.Prelude.{◌≡◌};
 ghost use Rattle.answers.specs.Answer.{number_of, points_of, frames_of};
 ghost use Rattle.c_form.specs.Reading.{reading_of};

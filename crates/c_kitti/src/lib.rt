@@ -1,5 +1,7 @@
 // KITTI files, as include/lidar.h declares the calls.
 
+#![tactic(auto)]
+
 ghost use Rattle.std.specs.Prelude.{◌≡◌};
 ghost use Rattle.points.specs.ReadInto.{outcome};
 ghost use Rattle.kitti.specs.Kitti.{read_kitti, read_kitti_bits};

@@ -1,5 +1,7 @@
 // Both Livox forms, as include/lidar.h declares the calls.
 
+#![tactic(auto)]
+
 ghost use Rattle.std.specs.Prelude.{◌≡◌};
 ghost use Rattle.points.specs.ReadInto.{outcome};
 ghost use Rattle.livox_file.specs.Livox.{read_livox};

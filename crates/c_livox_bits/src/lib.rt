@@ -1,6 +1,8 @@
 // Both Livox forms by pattern, as include/lidar.h declares the calls. In a crate of their own, since
 // the reading of a point is then called from one loop, and compiled into it.
 
+#![tactic(auto)]
+
 ghost use Rattle.std.specs.Prelude.{◌≡◌};
 ghost use Rattle.points.specs.ReadInto.{outcome};
 ghost use Rattle.livox_file.specs.Livox.{read_livox_bits};

@@ -1,5 +1,7 @@
 // Ouster captures, and the settings of two Ouster sensors, as include/lidar.h declares the calls.
 
+#![tactic(auto)]
+
 ghost use Rattle.std.specs.Prelude.{◌≡◌};
 ghost use Rattle.points.specs.ReadInto.{outcome};
 ghost use Rattle.record_rule.specs.Reading.{usual};

@@ -1,5 +1,7 @@
 // Placing a point on the belt, as include/lidar.h declares the calls.
 
+#![tactic(auto)]
+
 ghost use Rattle.std.specs.Prelude.{◌≡◌, [], pos};
 ghost use Rattle.std.proofs.Math.Option.{some};
 ghost use Rattle.livox_stored.specs.Stored.{millimetres, of_stored_reading, ten_millimetres};

@@ -1,6 +1,8 @@
 // The stored reading of a rank in a Livox file, and its placing, as include/lidar.h declares the
 // calls.
 
+#![tactic(auto)]
+
 ghost use Rattle.std.specs.Prelude.{◌≡◌};
 ghost use Rattle.std.proofs.Math.Option.{some};
 ghost use Rattle.std.proofs.Math.ListN.{get_elem?};

@@ -1,5 +1,7 @@
 // Velodyne captures and packets, as include/lidar.h declares the calls.
 
+#![tactic(auto)]
+
 ghost use Rattle.std.specs.Prelude.{◌≡◌, [], ◌∷◌};
 ghost use Rattle.points.specs.ReadInto.{outcome, too_long, read_into};
 ghost use Rattle.record_rule.specs.Reading.{usual};

@@ -1,5 +1,7 @@
 // Captures: a libpcap savefile walked payload by payload, in two readings.
 
+#![tactic(auto)]
+
 mod walk;
 
 pub use record_rule::{Reading, TimeUnit, Timestamp};

@@ -1,5 +1,7 @@
 // The words of a case, as `cases` and `point_cases` read them, and what both tell of a number.
 
+#![tactic(auto)]
+
 ghost use Rattle.std.specs.Prelude.{◌≡◌, ◌+◌, replicate, set, take};
 ghost use Rattle.std.proofs.lemmas.List.Edits.{sets};
 ghost use Rattle.case_words.specs.Pattern.{pattern_of};

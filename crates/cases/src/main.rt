@@ -17,6 +17,8 @@
 // the call that names none. Every elevation that is lent is half its channel's number. A reader's line
 // shows all of both slices as they are left: the kinds were 9 before, and the numbers 7.
 
+#![tactic(auto)]
+
 mod ouster_parameters;
 mod parameters;
 mod pattern_calls;

@@ -1,6 +1,8 @@
 // Byte readers: an unsigned number at any offset of a byte slice, in either byte order. A number
 // that does not lie whole inside the slice is told as missing.
 
+#![tactic(auto)]
+
 ghost use Rattle.std.specs.Prelude.{◌≡◌, [], ◌∷◌, ◌+◌, ◌≤◌, leb, length};
 ghost use Rattle.fields.specs.Number.{little, big, value, unsigned_at, field};
 

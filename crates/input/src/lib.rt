@@ -1,5 +1,7 @@
 // Tells how reading an input into a buffer ended, from what the system answered.
 
+#![tactic(auto)]
+
 ghost use Rattle.std.specs.Prelude.{◌≡◌};
 ghost use Rattle.input.specs.Ended.{ended};
 

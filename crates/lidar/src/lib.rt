@@ -1,5 +1,7 @@
 // What others use: the calls of 01 and 02, from the crates that hold them.
 
+#![tactic(auto)]
+
 pub use capture::{
     Cursor, Opened, Place, Reading, RecordFormat, Step, TimeUnit, Timestamp, open, open_as,
 };

@@ -1,5 +1,7 @@
 // Lists the points of a Livox file from standard input: LVX by its ten bytes, else LVX2.
 
+#![tactic(auto)]
+
 ghost use Rattle.std.specs.Prelude.{◌≡◌, ◌≤◌};
 ghost use Rattle.points.specs.ReadInto.{answered};
 ghost use Rattle.livox_header.specs.Header.{form_of};

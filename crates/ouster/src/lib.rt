@@ -1,5 +1,7 @@
 // The Ouster reader: polar points from captures of the legacy packet profile.
 
+#![tactic(auto)]
+
 mod read;
 
 pub use ouster_decode::decode_ouster_packet;

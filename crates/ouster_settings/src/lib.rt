@@ -1,5 +1,7 @@
 // What a recording was made with, and the made-ready settings of two sensors.
 
+#![tactic(auto)]
+
 ghost use Rattle.std.specs.Prelude.{◌≡◌};
 ghost use Rattle.ouster_settings.specs.Settings.{is_beam_count, bad_settings, os1-64, os-128, os1-64-elevations, os-128-elevations};
 

@@ -1,5 +1,7 @@
 // The payload of a rank.
 
+#![tactic(auto)]
+
 ghost use Rattle.std.specs.Prelude.{◌≡◌, ◌+◌, get_or};
 ghost use Rattle.record_rule.specs.Reading.{usual};
 ghost use Rattle.record_rule.specs.Time.{time_numbers};

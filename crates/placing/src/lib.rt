@@ -1,6 +1,8 @@
 // Placing a point on the belt: where it stands now, from where the lidar saw it and how far the belt
 // has moved since.
 
+#![tactic(auto)]
+
 ghost use Rattle.std.specs.Prelude.{◌≡◌, ◌+◌, ◌-◌, ◌%◌, ◌^◌, ◌<◌, ◌≤◌, [], pos, ◌*ℤ◌};
 ghost use Rattle.std.proofs.Math.Option.{some};
 ghost use Rattle.std.specs.Int.Signed.{mag};

@@ -1,5 +1,7 @@
 // Placing the point of a rank in a Livox file.
 
+#![tactic(auto)]
+
 ghost use Rattle.std.specs.Prelude.{◌≡◌};
 ghost use Rattle.std.proofs.Math.ListN.{get_elem?};
 ghost use Rattle.livox_header.specs.Header.{checks};

@@ -11,6 +11,8 @@
 //     millimetres, ten-millimetres             count, datum, pulse length; the bytes are the reading
 //     spherical, float                         count, datum, pulse length
 
+#![tactic(auto)]
+
 mod place_calls;
 mod rank_calls;
 mod show;

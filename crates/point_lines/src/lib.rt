@@ -1,5 +1,7 @@
 // The lister's line of a point, as bytes.
 
+#![tactic(auto)]
+
 ghost use Rattle.std.specs.Prelude.{◌≡◌, ◌/◌, ◌%◌, ◌<◌};
 ghost use Rattle.point_lines.specs.PointLine.{glyph, hex_digits, letter, point_line};
 

@@ -1,5 +1,7 @@
 // What every reader hands over: points, laid into lent slices, and an answer.
 
+#![tactic(auto)]
+
 // Longer data is refused.
 pub const MAX_DATA_LEN: usize = 2_147_483_647;
 

@@ -1,5 +1,7 @@
 // A record and its rule, in two readings: from the bytes of a record to its UDP payload.
 
+#![tactic(auto)]
+
 mod reading;
 mod rule;
 mod time;

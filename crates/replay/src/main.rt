@@ -1,5 +1,7 @@
 // Replays captures that other tools wrote: for each file that an argument names, its UDP payloads.
 
+#![tactic(auto)]
+
 use capture::{Cursor, Opened, Reading, Step, TimeUnit};
 use input::Ended;
 use libc::STDOUT_FILENO;

@@ -1,5 +1,7 @@
 // The headers of a libpcap savefile, in two readings: the file's, and a record's.
 
+#![tactic(auto)]
+
 ghost use Rattle.std.specs.Prelude.{◌≡◌, ◌+◌, ◌≤◌, length};
 ghost use Rattle.fields.specs.Number.{unsigned_at, field};
 ghost use Rattle.savefile.specs.Savefile.{order_of, big_endian_by, format_by, time_at};

@@ -1,6 +1,8 @@
 // Signed numbers and floats at any offset of a byte slice, from the unsigned number of the same
 // width that `fields` reads.
 
+#![tactic(auto)]
+
 ghost use Rattle.std.specs.Prelude.{◌≡◌};
 ghost use Rattle.std.specs.Float.{binary32};
 ghost use Rattle.std.specs.Float.Ieee.{of_bits};

@@ -1,6 +1,8 @@
 // One tuple struct for each unit of the source, and the one place where each becomes metres, degrees or radians.
 // Each method has the operations of lidar.rs, in its order, and each operation rounds once.
 
+#![tactic(auto)]
+
 ghost use Rattle.std.specs.Prelude.{◌≡◌, pos};
 ghost use Rattle.std.specs.Float.{binary32};
 ghost use Rattle.std.specs.Float.Ieee.{of_int};

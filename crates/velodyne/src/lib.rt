@@ -1,5 +1,7 @@
 // The Velodyne reader: polar points from captures of VLP-16, HDL-32E and VLP-32C sensors.
 
+#![tactic(auto)]
+
 mod read;
 
 pub use read::{read_velodyne, read_velodyne_as};
