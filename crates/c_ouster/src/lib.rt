@@ -5,7 +5,7 @@
 ghost use Rattle.std.specs.Prelude.{◌≡◌};
 ghost use Rattle.points.specs.ReadInto.{outcome};
 ghost use Rattle.record_rule.specs.Reading.{usual};
-ghost use Rattle.ouster_settings.specs.Settings.{os1-64, os-128, os1-64-elevations, os-128-elevations};
+ghost use Rattle.ouster_settings.specs.Settings.{os1_64, os_128, os1_64_elevations, os_128_elevations};
 ghost use Rattle.ouster.specs.Ouster.{read_ouster};
 ghost use Rattle.c_form.specs.Reading.{reading_of};
 ghost use Rattle.c_ouster.specs.Settings.{settings_of};
@@ -74,8 +74,8 @@ pub extern "C" fn lidar_os1_64(
     lidar_port: &mut u16,
     beam_altitudes: &mut [f32; 64],
 )
-    ensures lidar_port_after { settings_of columns_per_packet.new pixels_per_column.new lidar_port.new ≡ os1-64 }
-    ensures beam_altitudes_after { beam_altitudes.new ≡ os1-64-elevations }
+    ensures settings { settings_of columns_per_packet.new pixels_per_column.new lidar_port.new ≡ os1_64 }
+    ensures altitudes { beam_altitudes.new ≡ os1_64_elevations }
 {
     let settings = OusterSettings::os1_64();
     *columns_per_packet = settings.columns_per_packet;
@@ -91,8 +91,8 @@ pub extern "C" fn lidar_os_128(
     lidar_port: &mut u16,
     beam_altitudes: &mut [f32; 128],
 )
-    ensures lidar_port_after { settings_of columns_per_packet.new pixels_per_column.new lidar_port.new ≡ os-128 }
-    ensures beam_altitudes_after { beam_altitudes.new ≡ os-128-elevations }
+    ensures settings { settings_of columns_per_packet.new pixels_per_column.new lidar_port.new ≡ os_128 }
+    ensures altitudes { beam_altitudes.new ≡ os_128_elevations }
 {
     let settings = OusterSettings::os_128();
     *columns_per_packet = settings.columns_per_packet;

@@ -21,7 +21,7 @@ pub extern "C" fn lidar_place_millimetres(
     pulse_length: u32,
     metres: &mut f32,
 ) -> u8
-    ensures metres_after { (result, metres.new) ≡ tell_placed (place (by_reading (millimetres x (pos 0) (pos 0))) count datum pulse_length) metres.old }
+    ensures placed { (result, metres.new) ≡ tell_placed (place (by_reading (millimetres x (pos 0) (pos 0))) count datum pulse_length) metres.old }
     ensures accurate { Accurate [] (some (millimetres x (pos 0) (pos 0))) count datum pulse_length (received (result, metres.new)) }
 {
     let in_millimetres = StoredReading::Millimetres(Millimetres(x), Millimetres(0), Millimetres(0));
@@ -36,7 +36,7 @@ pub extern "C" fn lidar_place_ten_millimetres(
     pulse_length: u32,
     metres: &mut f32,
 ) -> u8
-    ensures metres_after { (result, metres.new) ≡ tell_placed (place (by_reading (ten_millimetres x (pos 0) (pos 0))) count datum pulse_length) metres.old }
+    ensures placed { (result, metres.new) ≡ tell_placed (place (by_reading (ten_millimetres x (pos 0) (pos 0))) count datum pulse_length) metres.old }
     ensures accurate { Accurate [] (some (ten_millimetres x (pos 0) (pos 0))) count datum pulse_length (received (result, metres.new)) }
 {
     let in_ten_millimetres = StoredReading::TenMillimetres(

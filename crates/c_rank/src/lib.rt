@@ -33,7 +33,7 @@ pub extern "C" fn lidar_stored_reading(
     third: &mut i64,
 ) -> u8
     ensures value { result ≡ (reading_of_rank (form_of_flag lvx2) «data».now rank).0 }
-    ensures third_after { stored_numbers stored.new first.new second.new third.new ≡ tell_stored (reading_of_rank (form_of_flag lvx2) «data».now rank).1 }
+    ensures told { stored_numbers stored.new first.new second.new third.new ≡ tell_stored (reading_of_rank (form_of_flag lvx2) «data».now rank).1 }
 {
     *stored = 0;
     *first = 0;
@@ -58,7 +58,7 @@ pub extern "C" fn lidar_place_in_file(
     pulse_length: u32,
     metres: &mut f32,
 ) -> u8
-    ensures metres_after { (result, metres.new) ≡ tell_placed (place (by_rank (form_of_flag lvx2) «data».now rank) count datum pulse_length) metres.old }
+    ensures placed { (result, metres.new) ≡ tell_placed (place (by_rank (form_of_flag lvx2) «data».now rank) count datum pulse_length) metres.old }
     ensures accurate { Accurate (checks (form_of_flag lvx2) «data».now) (get_elem? (stored (form_of_flag lvx2) «data».now) rank) count datum pulse_length (received (result, metres.new)) }
 {
     let form = form_of_flag(lvx2);

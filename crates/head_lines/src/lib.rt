@@ -15,7 +15,7 @@ use answers::Refusal;
 pub fn head_line(points: usize, frames: usize, line: &mut [u8; 64]) -> usize
     ensures prefix_len { IsPrefixLen result line.new }
     ensures value { result ≡ length (head_line points frames) }
-    ensures line_after { line.new ≡ over (head_line points frames) line.old }
+    ensures line_written { line.new ≡ over (head_line points frames) line.old }
 {
     let at = append_number(b"points ", points, line, 0);
     let at = append_number(b" frames ", frames, line, at);
@@ -26,7 +26,7 @@ pub fn head_line(points: usize, frames: usize, line: &mut [u8; 64]) -> usize
 pub fn refusal_line(refusal: Refusal, line: &mut [u8; 64]) -> usize
     ensures prefix_len { IsPrefixLen result line.new }
     ensures value { result ≡ length (refusal_line refusal) }
-    ensures line_after { line.new ≡ over (refusal_line refusal) line.old }
+    ensures line_written { line.new ≡ over (refusal_line refusal) line.old }
 {
     let number = refusal.number();
     let at = append_number(b"refused ", number as usize, line, 0);
@@ -51,7 +51,7 @@ fn append(text: &[u8], line: &mut [u8], at: usize) -> usize
 // after them.
 fn append_number(text: &[u8], n: usize, line: &mut [u8], at: usize) -> usize
     requires { at + length text.now + 20 ≤ length line.old }
-    ensures upper_bound { result ≤ at + length text.now + 20 }
+    ensures fits { result ≤ at + length text.now + 20 }
     ensures appended { Appended (text.now ++ decimal n) line.old at line.new result }
 {
     let mut digits = [0u8; 20];

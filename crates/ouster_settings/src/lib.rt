@@ -3,7 +3,7 @@
 #![tactic(auto)]
 
 ghost use Rattle.std.specs.Prelude.{◌≡◌};
-ghost use Rattle.ouster_settings.specs.Settings.{is_beam_count, bad_settings, os1-64, os-128, os1-64-elevations, os-128-elevations};
+ghost use Rattle.ouster_settings.specs.Settings.{is_beam_count, bad_settings, os1_64, os_128, os1_64_elevations, os_128_elevations};
 
 #[derive(Drop)]
 pub struct OusterSettings {
@@ -39,7 +39,7 @@ impl OusterSettings {
     }
 
     pub fn os1_64() -> Self
-        ensures { result ≡ os1-64 }
+        ensures { result ≡ os1_64 }
     {
         Self {
             columns_per_packet: Self::COLUMNS_PER_PACKET,
@@ -49,7 +49,7 @@ impl OusterSettings {
     }
 
     pub fn os_128() -> Self
-        ensures { result ≡ os-128 }
+        ensures { result ≡ os_128 }
     {
         Self {
             columns_per_packet: Self::COLUMNS_PER_PACKET,
@@ -60,13 +60,13 @@ impl OusterSettings {
 
     // The elevation of each beam, in degrees, from the top down.
     pub fn os1_64_altitudes() -> [f32; 64]
-        ensures { result ≡ os1-64-elevations }
+        ensures { result ≡ os1_64_elevations }
     {
         OS1_64_ALTITUDES
     }
 
     pub fn os_128_altitudes() -> [f32; 128]
-        ensures { result ≡ os-128-elevations }
+        ensures { result ≡ os_128_elevations }
     {
         let mut altitudes = [0.0; 128];
         let mut i: u16 = 0;

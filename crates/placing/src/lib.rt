@@ -40,7 +40,7 @@ pub fn place(
     datum: BeltDatum,
     pulse_length: PulseLength,
 ) -> Placed
-    ensures result_value { of_placed result ≡ place (by_reading (of_stored_reading reading)) count.0 datum.0 pulse_length.0 }
+    ensures placed { of_placed result ≡ place (by_reading (of_stored_reading reading)) count.0 datum.0 pulse_length.0 }
     ensures accurate { Accurate [] (some (of_stored_reading reading)) count.0 datum.0 pulse_length.0 (of_placed result) }
 {
     match reading {
@@ -90,7 +90,7 @@ fn place_along(x: i64, count: BeltCount, datum: BeltDatum, pulse_length: PulseLe
 fn times(n: i32, micrometres: u32) -> i64
     requires { micrometres ≤ 10000 }
     ensures value { result ≡ n *ℤ pos micrometres }
-    ensures result_bound { mag result < 2 ^ 45 }
+    ensures bounded { mag result < 2 ^ 45 }
 {
     n as i64 * micrometres as i64
 }

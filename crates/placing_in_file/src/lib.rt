@@ -23,7 +23,7 @@ pub fn place_in_file(
     datum: BeltDatum,
     pulse_length: PulseLength,
 ) -> Placed
-    ensures result_value { of_placed result ≡ place (by_rank form «data».now rank) count.0 datum.0 pulse_length.0 }
+    ensures placed { of_placed result ≡ place (by_rank form «data».now rank) count.0 datum.0 pulse_length.0 }
     ensures accurate { Accurate (checks form «data».now) (get_elem? (stored form «data».now) rank) count.0 datum.0 pulse_length.0 (of_placed result) }
 {
     match stored_reading(form, data, rank) {
