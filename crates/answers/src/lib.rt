@@ -7,7 +7,7 @@ ghost use Rattle.answers.specs.Answer.{refusal_number, refusal_points, number_of
 
 // Why a call refuses, by the paper's numbers. A call makes its checks in an order of its own, and the
 // first that applies is told.
-#[derive(Drop)]
+#[derive(Clone, Copy)]
 pub enum Refusal {
     // 1: the data is longer than 2,147,483,647 bytes.
     TooLong,
@@ -37,7 +37,7 @@ pub enum Refusal {
     OutsideWindow,
 }
 
-#[derive(Drop)]
+#[derive(Clone, Copy)]
 pub enum Answer {
     Read { points: usize, frames: usize },
     Refused(Refusal),

@@ -9,7 +9,7 @@ use record_rule::{Reading, Record, Start, TimeUnit, Timestamp};
 use savefile::{FileHeader, RecordFormat, Recorded};
 
 // Where a payload stands: its record's header, its first byte, and its length. And when its record was captured.
-#[derive(Drop)]
+#[derive(Clone, Copy)]
 pub struct Place {
     pub header: usize,
     pub start: usize,
@@ -18,7 +18,7 @@ pub struct Place {
 }
 
 // A place in the walk. It is a value: a copy of it goes the same way again.
-#[derive(Drop)]
+#[derive(Clone, Copy)]
 pub struct Cursor {
     pub at: usize,
     pub port: u16,
@@ -26,13 +26,13 @@ pub struct Cursor {
     pub format: RecordFormat,
 }
 
-#[derive(Drop)]
+#[derive(Clone, Copy)]
 pub enum Opened {
     Walk(Cursor),
     Refused(Refusal),
 }
 
-#[derive(Drop)]
+#[derive(Clone, Copy)]
 pub enum Step {
     Payload(Place, Cursor),
     End,

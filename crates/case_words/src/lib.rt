@@ -63,7 +63,7 @@ pub fn list_buffer() -> [u8; 262144]
 }
 
 // What is told of a number.
-#[derive(Drop)]
+#[derive(Clone, Copy)]
 pub enum Pattern {
     Bits(u32),
     Nan,

@@ -6,19 +6,19 @@
 ghost use Rattle.std.specs.Prelude.{◌≡◌, [], ◌∷◌, ◌+◌, ◌≤◌, leb, length};
 ghost use Rattle.fields.specs.Number.{little, big, value, unsigned_at, field};
 
-#[derive(Drop)]
+#[derive(Clone, Copy)]
 pub enum U16 {
     Value(u16),
     Missing,
 }
 
-#[derive(Drop)]
+#[derive(Clone, Copy)]
 pub enum U32 {
     Value(u32),
     Missing,
 }
 
-#[derive(Drop)]
+#[derive(Clone, Copy)]
 pub enum U64 {
     Value(u64),
     Missing,

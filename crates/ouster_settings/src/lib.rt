@@ -5,7 +5,7 @@
 ghost use Rattle.std.specs.Prelude.{◌≡◌};
 ghost use Rattle.ouster_settings.specs.Settings.{is_beam_count, bad_settings, os1_64, os_128, os1_64_elevations, os_128_elevations};
 
-#[derive(Drop)]
+#[derive(Clone, Copy)]
 pub struct OusterSettings {
     // Azimuth columns in a packet: 1 to 64.
     pub columns_per_packet: usize,

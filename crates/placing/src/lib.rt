@@ -15,18 +15,18 @@ use livox_stored::StoredReading;
 use units::BeltPulses;
 
 // A count of the belt's encoder, which wraps at 2^32.
-#[derive(Drop)]
+#[derive(Clone, Copy)]
 pub struct BeltCount(pub u32);
 
 // The count at which the point was seen.
-#[derive(Drop)]
+#[derive(Clone, Copy)]
 pub struct BeltDatum(pub u32);
 
 // How far the belt moves in a pulse, in micrometres.
-#[derive(Drop)]
+#[derive(Clone, Copy)]
 pub struct PulseLength(pub u32);
 
-#[derive(Drop)]
+#[derive(Clone, Copy)]
 pub enum Placed {
     // The distance along the belt.
     Metres(f32),

@@ -11,7 +11,7 @@ pub use rule::{Start, Verdict, judge};
 pub use time::{TimeUnit, Timestamp};
 
 // A record of a capture: where its header stands in the data, where its captured bytes start, how many they are, and when they were captured.
-#[derive(Drop)]
+#[derive(Clone, Copy)]
 pub struct Record {
     pub header: usize,
     pub body: usize,

@@ -3,7 +3,7 @@
 ghost use Rattle.std.specs.Prelude.{◌≡◌};
 ghost use Rattle.record_rule.specs.Reading.{usual};
 
-#[derive(Drop)]
+#[derive(Clone, Copy)]
 pub enum Reading {
     Rust,
     Savefile,

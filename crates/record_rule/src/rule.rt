@@ -10,7 +10,7 @@ use crate::reading::Reading;
 use fields::U16;
 
 // What becomes of a record: the test that passes it over, or where its payload starts in it and how long it is.
-#[derive(Drop)]
+#[derive(Clone, Copy)]
 pub enum Verdict {
     ShortRecord,
     NotIpv4,
@@ -24,7 +24,7 @@ pub enum Verdict {
 }
 
 // Where the payload starts in its record, and how long it is.
-#[derive(Drop)]
+#[derive(Clone, Copy)]
 pub enum Start {
     At(usize, usize),
     Nothing,

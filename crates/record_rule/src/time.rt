@@ -4,14 +4,14 @@ ghost use Rattle.std.specs.Prelude.{◌≡◌};
 ghost use Rattle.record_rule.specs.Time.{unit_number, time_numbers};
 
 // The unit of a fraction.
-#[derive(Drop)]
+#[derive(Clone, Copy)]
 pub enum TimeUnit {
     Microseconds,
     Nanoseconds,
 }
 
 // Seconds since 1970, and the fraction of a second as stored: it may be a second or more.
-#[derive(Drop)]
+#[derive(Clone, Copy)]
 pub struct Timestamp {
     pub seconds: u32,
     pub fraction: u32,

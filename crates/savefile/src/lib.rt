@@ -13,20 +13,20 @@ use record_rule::{Reading, Record, TimeUnit, Timestamp};
 
 // How the records of a file are written: whether their numbers are big-endian, by the magic and the reading, and the unit
 // of their fractions, by the magic alone.
-#[derive(Drop)]
+#[derive(Clone, Copy)]
 pub struct RecordFormat {
     pub big_endian: bool,
     pub unit: TimeUnit,
 }
 
-#[derive(Drop)]
+#[derive(Clone, Copy)]
 pub enum FileHeader {
     Accepted(RecordFormat),
     Refused(Refusal),
 }
 
 // The record at a place, where all of it is there.
-#[derive(Drop)]
+#[derive(Clone, Copy)]
 pub enum Recorded {
     Whole(Record),
     PastEnd,

@@ -11,19 +11,19 @@ ghost use Rattle.signed_fields.specs.Signed.{signed};
 
 use fields::{U16, U32};
 
-#[derive(Drop)]
+#[derive(Clone, Copy)]
 pub enum I16 {
     Value(i16),
     Missing,
 }
 
-#[derive(Drop)]
+#[derive(Clone, Copy)]
 pub enum I32 {
     Value(i32),
     Missing,
 }
 
-#[derive(Drop)]
+#[derive(Clone, Copy)]
 pub enum F32 {
     Value(f32),
     Missing,
