@@ -13,11 +13,11 @@ returns-then-data-lt10 c = sym (too_few lvx_mark _ (omega arith))
 
 pub returns-then-data-i : goal.returns-then-data-i
 unfolding lvx_mark
-returns-then-data-i c = sym (c.shared_slice_known-1.invariant.1 ∙ other_byte lvx_mark _ c.shared_slice_known-1.i (omega arith) (omega arith) c.if-data-i.true)
+returns-then-data-i c = sym (c.loop-i.invariant.1 ∙ other_byte lvx_mark _ c.loop-i.i (omega arith) (omega arith) c.if-data-i.true)
 
 pub loop-i-preserved : goal.loop-i-preserved
 unfolding lvx_mark
-loop-i-preserved c = (omega arith, c.shared_slice_known-1.invariant.1 ∙ same_byte lvx_mark _ c.shared_slice_known-1.i (omega arith) (omega arith) c.if-data-i.false)
+loop-i-preserved c = (omega arith, c.loop-i.invariant.1 ∙ same_byte lvx_mark _ c.loop-i.i (omega arith) (omega arith) c.if-data-i.false)
 
 pub returns : goal.returns
 unfolding lvx_mark starts_with

@@ -15,25 +15,27 @@ returns-then-size-lt24 c = rw (lvx_too_short _ c.requires c.if-size-lt24.true)
 
 pub returns-then-not-has_lvx_signature : goal.returns-then-not-has_lvx_signature
 unfolding opening
-returns-then-not-has_lvx_signature c = rw (lvx_wrong_mark _ c.requires c.if-size-lt24.false (sym c.has_lvx_signature.ensures ∙ not-true _ c.if-not-has_lvx_signature.true))
+returns-then-not-has_lvx_signature c = rw (lvx_wrong_mark _ c.requires c.if-size-lt24.false (sym c.has_lvx_signature.ensures ∙ c.if-not-has_lvx_signature.true))
 
 pub returns-then-u32_at-ne-LVX_MAGIC_CODE : goal.returns-then-u32_at-ne-LVX_MAGIC_CODE
 unfolding opening
-returns-then-u32_at-ne-LVX_MAGIC_CODE c = rw (lvx_wrong_code _ c.requires c.if-size-lt24.false (sym c.has_lvx_signature.ensures ∙ not-false _ c.if-not-has_lvx_signature.false) (λ e. c.if-u32_at-ne-LVX_MAGIC_CODE.true (c.u32_at.ensures ∙ e)))
+returns-then-u32_at-ne-LVX_MAGIC_CODE c = rw (lvx_wrong_code _ c.requires c.if-size-lt24.false (sym c.has_lvx_signature.ensures ∙ c.if-not-has_lvx_signature.false) (λ e. c.if-u32_at-ne-LVX_MAGIC_CODE.true (c.u32_at.ensures ∙ e)))
 
 pub returns-then-size-lt29 : goal.returns-then-size-lt29
 unfolding opening
-returns-then-size-lt29 c = rw (lvx_header_too_short _ c.requires c.if-size-lt24.false (sym c.has_lvx_signature.ensures ∙ not-false _ c.if-not-has_lvx_signature.false) (sym c.u32_at.ensures ∙ c.if-u32_at-ne-LVX_MAGIC_CODE.false) c.if-size-lt29.true)
+returns-then-size-lt29 c = rw (lvx_header_too_short _ c.requires c.if-size-lt24.false (sym c.has_lvx_signature.ensures ∙ c.if-not-has_lvx_signature.false) (sym c.u32_at.ensures ∙ c.if-u32_at-ne-LVX_MAGIC_CODE.false) c.if-size-lt29.true)
 
 pub returns-then-size-base : goal.returns-then-size-base
 unfolding base opening
-returns-then-size-base c = let bytes = c.args.«data».now in
+returns-then-size-base c =
+    let bytes = c.args.«data».now in
     let place : base Lvx bytes ≡ 29 + c.wide.result * 59 = omega (arith, c.wide.ensures) in
-    rw (lvx_devices_past_end bytes c.requires c.if-size-lt24.false (sym c.has_lvx_signature.ensures ∙ not-false _ c.if-not-has_lvx_signature.false) (sym c.u32_at.ensures ∙ c.if-u32_at-ne-LVX_MAGIC_CODE.false) c.if-size-lt29.false (omega arith))
+    rw (lvx_devices_past_end bytes c.requires c.if-size-lt24.false (sym c.has_lvx_signature.ensures ∙ c.if-not-has_lvx_signature.false) (sym c.u32_at.ensures ∙ c.if-u32_at-ne-LVX_MAGIC_CODE.false) c.if-size-lt29.false (omega arith))
 
 pub returns : goal.returns
 unfolding base opening
-returns c = let bytes = c.args.«data».now in
+returns c =
+    let bytes = c.args.«data».now in
     let place : base Lvx bytes ≡ 29 + c.wide.result * 59 = omega (arith, c.wide.ensures) in
-    rw (lvx_opens bytes c.requires c.if-size-lt24.false (sym c.has_lvx_signature.ensures ∙ not-false _ c.if-not-has_lvx_signature.false) (sym c.u32_at.ensures ∙ c.if-u32_at-ne-LVX_MAGIC_CODE.false) c.if-size-lt29.false (omega arith), place)
+    rw (lvx_opens bytes c.requires c.if-size-lt24.false (sym c.has_lvx_signature.ensures ∙ c.if-not-has_lvx_signature.false) (sym c.u32_at.ensures ∙ c.if-u32_at-ne-LVX_MAGIC_CODE.false) c.if-size-lt29.false (omega arith), place)
 
