@@ -117,12 +117,12 @@ not_finite true s t n v = v
 not_finite false s t n v = v
 
 -- the value that a pattern's three fields stand for
-of_fields : (s t : Bool) (x f n : ℕ) → x ≤ 255 → HasValue (of_fields binary32 s x f) t n (2 ^ 149) → (x < 255) × (s ≡ t) × (magnitude x f ≡ n)
+value_of_fields : (s t : Bool) (x f n : ℕ) → x ≤ 255 → HasValue (of_fields binary32 s x f) t n (2 ^ 149) → (x < 255) × (s ≡ t) × (magnitude x f ≡ n)
 unfolding of_fields
-of_fields s t zero f n h v =
+value_of_fields s t zero f n h v =
     let is = same_value (odd 24 s f 0 149) s t (f * 2 ^ 0) n (2 ^ 149) (odd_sign 24 s f 0 149) v in
     (lit< tt, is.0, sym (mul-one f) ∙ is.1)
-of_fields s t (suc x) f n h v =
+value_of_fields s t (suc x) f n h v =
     elim (ℕ_discrete (suc x) 255) [
       | yes e ↦ absurd (not_finite (eqb f 0) s t n (subst (λ (b : Bool). HasValue (cond b (cond (eqb f 0) (inf s) nan) (odd 24 s (2 ^ 23 + f) x 149)) t n (2 ^ 149)) (eq-eqb (suc x) 255 e) v))
       | no e ↦
@@ -136,7 +136,7 @@ bits_are : (x : Float) (t : Bool) (n : ℕ) → T (fits binary32 x) → HasValue
 unfolding of_bits
 bits_are x t n h v =
     let bits = to_bits binary32 x in
-    let is = of_fields (leb (2 ^ 31) bits) t (exponent_bits bits) (fraction_bits bits) n (omega arith) (subst (λ (y : Float). HasValue y t n (2 ^ 149)) (sym (of_bits-to_bits binary32 x h)) v) in
+    let is = value_of_fields (leb (2 ^ 31) bits) t (exponent_bits bits) (fraction_bits bits) n (omega arith) (subst (λ (y : Float). HasValue y t n (2 ^ 149)) (sym (of_bits-to_bits binary32 x h)) v) in
     (is.0, rw (is.1, is.2))
 
 -- ---- within half a micrometre
