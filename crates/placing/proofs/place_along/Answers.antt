@@ -30,7 +30,7 @@ pub returns-then-is_outside : goal.returns-then-is_outside
 returns-then-is_outside c =
     let good : bad_pulse_length c.args.pulse_length.0 ≡ false = sym c.is_bad_pulse_length.ensures ∙ c.if-is_bad_pulse_length.false in
     let exact-is : to_z w64 (of_z w64 (to_z w64 (of_z w64 c.args.x) +ℤ to_z w64 (of_z w64 c.times.result)))
-    ≡ micrometres c.args.x c.args.count.0 c.args.datum.0 c.args.pulse_length.0 = let moved = to_z-of_z w32 _ (omega (arith, c.struct_told-1.given)) ∙ c.pulses.ensures in
+    ≡ micrometres c.args.x c.args.count.0 c.args.datum.0 c.args.pulse_length.0 = let moved = to_z-of_z w32 _ (omega arith) ∙ c.pulses.ensures in
     sum_is _ _ c.ranges.x c.requires (record { sfits = c.times.type_inv }) c.times.ensures.bounded
     ∙ ap (λ z. c.args.x +ℤ z) (c.times.ensures.value ∙ ap (λ z. z *ℤ pos c.args.pulse_length.0) moved) in
     beyond _ _ _ _ good (ap outside (sym exact-is) ∙ sym c.is_outside.ensures ∙ c.if-is_outside.true)
@@ -43,7 +43,7 @@ unfolding metres of_bits round
 returns c =
     let good : bad_pulse_length c.args.pulse_length.0 ≡ false = sym c.is_bad_pulse_length.ensures ∙ c.if-is_bad_pulse_length.false in
     let exact-is : to_z w64 (of_z w64 (to_z w64 (of_z w64 c.args.x) +ℤ to_z w64 (of_z w64 c.times.result)))
-    ≡ micrometres c.args.x c.args.count.0 c.args.datum.0 c.args.pulse_length.0 = let moved = to_z-of_z w32 _ (omega (arith, c.struct_told-1.given)) ∙ c.pulses.ensures in
+    ≡ micrometres c.args.x c.args.count.0 c.args.datum.0 c.args.pulse_length.0 = let moved = to_z-of_z w32 _ (omega arith) ∙ c.pulses.ensures in
     sum_is _ _ c.ranges.x c.requires (record { sfits = c.times.type_inv }) c.times.ensures.bounded
     ∙ ap (λ z. c.args.x +ℤ z) (c.times.ensures.value ∙ ap (λ z. z *ℤ pos c.args.pulse_length.0) moved) in
     let inside = ap outside (sym exact-is) ∙ sym c.is_outside.ensures ∙ c.if-is_outside.false in
