@@ -2,10 +2,10 @@
 -- goes by the two cases of `ToldBy`. Assumes nothing.
 use Prim.Native.Nat.{ℕ, suc, ◌≤◌}
 use native.Mathlib.Omega.{arith}
-use mathlib.Core.Path.{◌≡◌, refl, sym, ap, ◌∙◌}
+use mathlib.Core.Path.{◌≡◌, refl}
 use Rattle.answers.specs.declared.Refusal.{Refusal}
 use Rattle.answers.specs.declared.Refusal.TheVariants.{TooLong, BadSettings, TooShort, WrongMark, WrongCode, HeaderTooShort, DevicesPastEnd, NotWholeRecords, NoPayload, NoRoom, NotPlaceable, BadPulseLength, OutsideWindow}
-use Rattle.answers.specs.Answer.{Tells, number, no_room, tells, refusal_number, refusal_points}
+use Rattle.answers.specs.Answer.{number, tells, refusal_number, refusal_points}
 
 pub data ToldBy : Refusal → Type 0 where
   plain : {r : Refusal} (n : ℕ) → tells r ≡ number (suc n) → ToldBy r

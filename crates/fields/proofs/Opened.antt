@@ -7,11 +7,8 @@ use mathlib.Core.List.{List, [], ◌∷◌}
 use lib.ListN.{length}
 use Rattle.fields.specs.Number.{ByteOrder, unsigned_at, field}
 use Rattle.fields.specs.declared.U16.{U16}
-use Rattle.fields.specs.declared.U16.TheVariants as U16
 use Rattle.fields.specs.declared.U32.{U32}
-use Rattle.fields.specs.declared.U32.TheVariants as U32
 use Rattle.fields.specs.declared.U64.{U64}
-use Rattle.fields.specs.declared.U64.TheVariants as U64
 use Rattle.fields.proofs.Laws.{field_inside, field_map}
 
 -- The value in an answer, if there is one.

@@ -2,7 +2,6 @@
 -- stands for -1 - (2 ^ bits - 1 - n), where nothing overflows. Assumes nothing.
 use Prim.Native.Nat.{ℕ, zero, suc, ◌-◌, ◌^◌, ◌≤◌, ◌<◌}
 use native.Mathlib.Nat.{zero-add}
-use native.Mathlib.Omega.{arith}
 use mathlib.Core.Path.{◌≡◌, refl, sym, ap, ◌∙◌, subst}
 use lib.IntN.{ℤ, pos, negsuc, ◌-ℤ◌}
 use borrow.Author.Tests.{lt-ltb, le-ltb}

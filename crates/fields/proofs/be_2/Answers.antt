@@ -1,5 +1,4 @@
 -- `fields::be_2` meets its contract. Its bytes are those that `number_two` writes out. Assumes nothing.
-use borrow.Author.Rules.{rules}
 use mathlib.Core.Path.{sym, ◌∙◌}
 use Rattle.fields.specs.Number.{big, least_first}
 use Rattle.fields.proofs.Laws.{number_two}
@@ -8,4 +7,3 @@ use Rattle.fields.proofs.be_2.Goals as goal
 pub returns : goal.returns
 unfolding least_first
 returns c = c.join_2.ensures ∙ sym (number_two big _ _ c.requires)
-

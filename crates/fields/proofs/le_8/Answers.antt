@@ -1,5 +1,4 @@
 -- `fields::le_8` meets its contract: its halves are two numbers of four bytes, by the law `number_halves`. Assumes nothing.
-use borrow.Author.Rules.{rules}
 use native.Mathlib.Omega.{arith}
 use Rattle.fields.specs.Number.{little}
 use Rattle.fields.proofs.Laws.{number_halves}
@@ -8,4 +7,3 @@ use Rattle.fields.proofs.le_8.Goals as goal
 pub returns : goal.returns
 returns c =
     omega (arith, number_halves little 4 c.args.«data».now c.args.off (omega arith), c.le_4.ensures, c.le_4-2.ensures)
-

@@ -4,7 +4,6 @@ use mathlib.Core.Path.{sym, ap, ◌∙◌}
 use Rattle.capture.specs.Payloads.{of_opened, places_from, payloads, place_of}
 use Rattle.capture.proofs.Opening.{walks, refuses}
 use Rattle.capture.proofs.Handed.{accepted, none_handed}
-use borrow.Author.Rules.{rules}
 use Rattle.payloads.proofs.payload_place_as.Goals as goal
 
 pub returns-in_default : goal.returns-in_default
@@ -20,4 +19,3 @@ returns c =
     let a = c.args in
     let yes = walks a.reading a.port a.«data».now _ (ap of_opened (sym c.in-Walk.is) ∙ c.open_as.ensures) in
     c.place_from.ensures ∙ rw yes.1 (sym (accepted _ (payloads a.reading a.port a.«data».now) a.rank yes.0))
-

@@ -5,7 +5,6 @@ use native.Mathlib.Omega.{arith}
 use mathlib.Core.Path.{◌≡◌, refl, sym, ◌∙◌}
 use mathlib.Core.List.{List, ◌∷◌}
 use lib.ListN.{get_or}
-use borrow.Author.Rules.{rules}
 use Rattle.capture.specs.declared.walk.Place.{Place}
 use Rattle.capture.specs.Payloads.{places_from, nowhere}
 use Rattle.capture.proofs.Steps.{step_end, step_payload}
@@ -30,4 +29,3 @@ pub loop-place-preserved : goal.loop-place-preserved
 loop-place-preserved c =
     let front : places_from c.loop-place.cursor c.args.«data».now ≡ c.in-Payload.place ∷ places_from c.in-Payload.next c.args.«data».now = step_payload _ _ _ _ (sym c.step.ensures ∙ c.in-Payload.is) in
     c.loop-place.invariant ∙ rw front (one_less c.in-Payload.place (places_from c.in-Payload.next c.args.«data».now) c.loop-place.left c.if-left-eq0.false)
-

@@ -1,14 +1,8 @@
 -- `payloads::place_from` meets its contract. The loop's invariant: what is left to count from the cursor reached leads to the same place. A step takes one
 -- place off the front (`step_payload`). Assumes nothing.
-use Prim.Native.Nat.{ℕ, zero, suc, ◌-◌}
-use native.Mathlib.Omega.{arith}
-use mathlib.Core.Path.{◌≡◌, refl, sym, ◌∙◌}
-use mathlib.Core.List.{List, ◌∷◌}
+use mathlib.Core.Path.{◌≡◌}
 use lib.ListN.{get_or}
-use borrow.Author.Rules.{rules}
-use Rattle.capture.specs.declared.walk.Place.{Place}
 use Rattle.capture.specs.Payloads.{places_from, nowhere}
-use Rattle.capture.proofs.Steps.{step_end, step_payload}
 use Rattle.payloads.proofs.place_from.Given as goal
 
 abbrev pub invariant-loop-place : goal.invariant-loop-place

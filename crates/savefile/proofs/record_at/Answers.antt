@@ -1,6 +1,5 @@
 -- `savefile::record_at` meets its contract. Taking off the length what is known to fit asks the same as the sum of the definition. Assumes nothing.
 use native.Mathlib.Omega.{arith}
-use borrow.Author.Rules.{rules}
 use Rattle.savefile.proofs.Records.{past_end, whole}
 use Rattle.savefile.proofs.record_at.Goals as goal
 
@@ -15,4 +14,3 @@ returns-then-data-body c = past_end _ _ _ (omega arith)
 
 pub returns : goal.returns
 returns c = rw (c.u32_at-len.ensures, c.time_at.ensures) (whole _ _ _ (omega arith))
-

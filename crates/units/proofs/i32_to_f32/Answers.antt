@@ -3,7 +3,6 @@ use mathlib.Core.Path.{◌≡◌, ◌∙◌, ap}
 use Prim.Native.Nat.{◌/◌, ◌%◌, suc, ◌*◌}
 use native.Mathlib.Nat.{div-add-mod'}
 use native.Mathlib.Omega.{arith}
-use borrow.Author.Rules.{rules}
 use lib.IntN.{ℤ, pos, negsuc, ◌+ℤ◌, ◌*ℤ◌}
 use lib.Signed.{shr_z, mag_shr}
 use lib.Bits.{bit_and, and_mask}
@@ -38,4 +37,3 @@ returns c = let n = c.args.n in
     let h = c.ranges.n in
     rw (floor-is n h, to_z-of_z w16 _ (floor-fits n h), rest-is n)
     (halves (shr_z n 65536) (of_z w32 n % 65536) (omega (arith, floor-fits n h)) (omega arith) ∙ ap (of_int binary32) (joined n h))
-

@@ -3,7 +3,6 @@ use mathlib.Core.Path.{sym, ap, ◌∙◌}
 use Rattle.savefile.specs.Headers.{of_file_header}
 use Rattle.savefile.proofs.Header.{format_told}
 use Rattle.capture.proofs.Opening.{by_header}
-use borrow.Author.Rules.{rules}
 use Rattle.capture.proofs.walk.open_as.Goals as goal
 
 pub returns-in-Accepted : goal.returns-in-Accepted
@@ -13,4 +12,3 @@ returns-in-Accepted c =
 
 pub returns-in-Refused : goal.returns-in-Refused
 returns-in-Refused c = by_header _ _ _ _ (sym (ap of_file_header c.in-Refused.is) ∙ c.file_header.ensures)
-

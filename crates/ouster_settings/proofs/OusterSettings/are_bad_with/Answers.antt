@@ -1,5 +1,4 @@
 -- `ouster_settings::OusterSettings::are_bad_with` meets its contract: the tests are the definition's, in its order. Assumes nothing.
-use borrow.Author.Rules.{rules}
 use borrow.Author.Tests.{lt-ltb, le-ltb}
 use Rattle.ouster_settings.specs.Settings.{bad_settings}
 use Rattle.ouster_settings.proofs.OusterSettings.are_bad_with.Goals as goal
@@ -19,4 +18,3 @@ returns-then-columns-gt64 c = rw (← c.is_beam_count.ensures, c.if-not-is_beam_
 pub returns : goal.returns
 unfolding bad_settings
 returns c = rw (← c.is_beam_count.ensures, c.if-not-is_beam_count.false, le-ltb _ _ c.if-columns-lt1.false, le-ltb _ _ c.if-columns-gt64.false)
-

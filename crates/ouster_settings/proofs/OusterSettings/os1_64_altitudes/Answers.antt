@@ -7,4 +7,3 @@ use Rattle.ouster_settings.proofs.OusterSettings.os1_64_altitudes.Goals as goal
 pub returns : goal.returns
 unfolding of_bits os1_64_elevations round
 returns c = refl
-

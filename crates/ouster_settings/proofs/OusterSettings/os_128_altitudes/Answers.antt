@@ -1,11 +1,9 @@
 -- `ouster_settings::OusterSettings::os_128_altitudes` meets its contract. The loop's invariant: the first i elevations are the definition's, of 128. Assumes nothing.
-use Prim.Native.Nat.{◌-◌, ◌≤◌}
 use native.Mathlib.Omega.{arith}
 use mathlib.Core.Path.{◌≡◌, refl, sym, ◌∙◌}
 use lib.Ieee.{round, of_bits}
-use lib.ListN.{length, take, length-set}
+use lib.ListN.{length-set}
 use lib.Seq.{take_all}
-use borrow.Author.Rules.{rules}
 use Rattle.points.specs.Tabulate.{tabulate}
 use Rattle.points.proofs.Lists.{tabulate-set}
 use Rattle.ouster_settings.specs.Settings.{os_128_elevation, os_128_elevations}
@@ -27,4 +25,3 @@ returns c =
     let loop = c.loop-i in
     let all : loop.i ≡ 128 = omega arith in
     sym (take_all 128 loop.altitudes (omega arith)) ∙ rw all at loop.invariant.2
-

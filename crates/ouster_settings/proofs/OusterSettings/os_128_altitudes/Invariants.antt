@@ -1,14 +1,9 @@
 -- `ouster_settings::OusterSettings::os_128_altitudes` meets its contract. The loop's invariant: the first i elevations are the definition's, of 128. Assumes nothing.
 use Prim.Native.Nat.{◌-◌, ◌≤◌}
-use native.Mathlib.Omega.{arith}
-use mathlib.Core.Path.{◌≡◌, refl, sym, ◌∙◌}
-use lib.Ieee.{round, of_bits}
-use lib.ListN.{length, take, length-set}
-use lib.Seq.{take_all}
-use borrow.Author.Rules.{rules}
+use mathlib.Core.Path.{◌≡◌}
+use lib.ListN.{length, take}
 use Rattle.points.specs.Tabulate.{tabulate}
-use Rattle.points.proofs.Lists.{tabulate-set}
-use Rattle.ouster_settings.specs.Settings.{os_128_elevation, os_128_elevations}
+use Rattle.ouster_settings.specs.Settings.{os_128_elevation}
 use Rattle.ouster_settings.proofs.OusterSettings.os_128_altitudes.Given as goal
 
 abbrev pub invariant-loop-i : goal.invariant-loop-i

@@ -70,4 +70,3 @@ returns c =
     let version-4 : eqb (version c.args.bytes.now) 4 ≡ true = eq-eqb _ _ (sym (version_is _ _ c.type_at-type_at.ensures) ∙ c.if-first-ne4.false) in
     let udp : eqb (protocol c.args.bytes.now) 17 ≡ true = eq-eqb _ _ (sym (protocol_is _ _ c.type_at-type_at.ensures) ∙ c.if-bytes-ip-ne17.false) in
     c.judge_udp.ensures ∙ from_ip _ _ _ long ipv4 version-4 udp
-

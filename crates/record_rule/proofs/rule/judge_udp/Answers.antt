@@ -10,7 +10,6 @@ use Rattle.record_rule.specs.Ipv4.{ihl}
 use Rattle.record_rule.specs.Udp.{payload_start, destination_port}
 use Rattle.record_rule.specs.Record.{asks_ihl, payload_of}
 use Rattle.record_rule.proofs.Tests.{port_is, start_is, len_is, short_header, past_end, other_port, nothing_follows, payload}
-use borrow.Author.Rules.{rules}
 use Rattle.record_rule.proofs.rule.judge_udp.Goals as goal
 
 pub returns-then-refuses_ihl : goal.returns-then-refuses_ihl
@@ -51,4 +50,3 @@ returns c =
     let ports : (not (eqb c.args.port 0) && not (eqb (destination_port c.args.bytes.now) c.args.port)) ≡ c.is_other_port.result = let a = c.args in
     ap (λ (n : ℕ). not (eqb a.port 0) && not (eqb n a.port)) (sym (port_is a.bytes.now a.ip a.words c.requires.1 c.requires.3)) ∙ sym c.is_other_port.ensures in
     told ∙ payload _ _ _ (asks ∙ c.if-refuses_ihl.false) fits (ports ∙ c.if-is_other_port.false) (rw (← start) (lt-leb _ _ c.if-bytes-start-2.false))
-

@@ -2,7 +2,6 @@
 use mathlib.Core.Path.{sym, ◌∙◌}
 use borrow.Author.Tests.{eq-eqb, ne_eqb}
 use Rattle.record_rule.specs.Ethernet.{type_at}
-use borrow.Author.Rules.{rules}
 use Rattle.record_rule.proofs.rule.type_at.Goals as goal
 
 pub returns-then-u16_at-eq33024 : goal.returns-then-u16_at-eq33024
@@ -12,4 +11,3 @@ returns-then-u16_at-eq33024 c = rw (eq-eqb _ _ (sym c.u16_at.ensures ∙ c.if-u1
 pub returns-else-u16_at-eq33024 : goal.returns-else-u16_at-eq33024
 unfolding type_at
 returns-else-u16_at-eq33024 c = rw (ne_eqb _ _ (λ e. c.if-u16_at-eq33024.false (c.u16_at.ensures ∙ e)))
-

@@ -1,6 +1,5 @@
 -- `units::HundredthsOfDegree::degrees_by_division` meets its contract: the literal's bits are 100.0. Assumes nothing.
 use mathlib.Core.Path.{refl}
-use borrow.Author.Rules.{rules}
 use lib.Ieee.{round, of_bits}
 use Rattle.units.specs.Conversions.{degrees_by_division}
 use Rattle.units.proofs.HundredthsOfDegree.degrees_by_division.Goals as goal
@@ -8,4 +7,3 @@ use Rattle.units.proofs.HundredthsOfDegree.degrees_by_division.Goals as goal
 pub returns : goal.returns
 unfolding degrees_by_division round of_bits
 returns c = refl
-

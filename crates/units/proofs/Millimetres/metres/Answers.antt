@@ -7,4 +7,3 @@ use Rattle.units.proofs.Millimetres.metres.Goals as goal
 pub returns : goal.returns
 unfolding metres_of_millimetres round of_bits
 returns c = rw c.i32_to_f32.ensures (search rules)
-

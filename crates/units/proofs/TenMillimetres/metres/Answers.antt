@@ -7,4 +7,3 @@ use Rattle.units.proofs.TenMillimetres.metres.Goals as goal
 pub returns : goal.returns
 unfolding metres_of_ten_millimetres round of_bits
 returns c = search rules
-

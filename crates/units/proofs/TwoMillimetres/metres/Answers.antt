@@ -1,6 +1,5 @@
 -- `units::TwoMillimetres::metres` meets its contract: the literal's bits are 0.002, rounded. Assumes nothing.
 use mathlib.Core.Path.{refl}
-use borrow.Author.Rules.{rules}
 use lib.Ieee.{round, of_bits}
 use Rattle.units.specs.Conversions.{metres_of_two_millimetres}
 use Rattle.units.proofs.TwoMillimetres.metres.Goals as goal
@@ -8,4 +7,3 @@ use Rattle.units.proofs.TwoMillimetres.metres.Goals as goal
 pub returns : goal.returns
 unfolding metres_of_two_millimetres round of_bits
 returns c = refl
-

@@ -1,5 +1,4 @@
 -- `units::UnsignedMillimetres::metres` meets its contract: the literal's bits are 1000.0. Assumes nothing.
-use borrow.Author.Rules.{rules}
 use lib.Ieee.{round, of_bits}
 use Rattle.units.specs.Conversions.{metres_of_millimetres}
 use Rattle.units.proofs.UnsignedMillimetres.metres.Goals as goal
@@ -7,4 +6,3 @@ use Rattle.units.proofs.UnsignedMillimetres.metres.Goals as goal
 pub returns : goal.returns
 unfolding metres_of_millimetres round of_bits
 returns c = rw c.u32_to_f32.ensures
-

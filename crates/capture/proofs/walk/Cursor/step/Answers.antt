@@ -5,7 +5,6 @@ use native.Mathlib.Omega.{arith}
 use mathlib.Core.Path.{◌≡◌, sym, ap, ◌∙◌}
 use mathlib.Core.List.{List, ◌++◌}
 use lib.ListN.{take, drop}
-use borrow.Author.Rules.{rules}
 use Rattle.record_rule.specs.declared.Record.{Record}
 use Rattle.record_rule.specs.declared.rule.Start.{Start}
 use Rattle.record_rule.specs.declared.rule.Start.TheVariants.{At}
@@ -57,10 +56,11 @@ slice_bounds-judge-end c = (there c.args.self c.args.«data».now c.loop-record.
 pub place_in-requires : goal.place_in-requires
 place_in-requires c =
     let read : recorded_at c.args.self.format c.args.«data».now c.loop-record.at ≡ Whole c.in-Whole.record = sym c.record_at.ensures ∙ c.in-Whole.is in
-    omega
-    (arith
-    , (there c.args.self c.args.«data».now c.loop-record.at c.in-Whole.record read).1
-    , fits c.args.self c.args.«data».now c.loop-record.at c.in-Whole.record read c.judge-verdict.result c.judge-verdict.ensures c.start.result c.start.ensures _ _ c.in-At.is)
+    omega (
+      arith,
+      (there c.args.self c.args.«data».now c.loop-record.at c.in-Whole.record read).1,
+      fits c.args.self c.args.«data».now c.loop-record.at c.in-Whole.record read c.judge-verdict.result c.judge-verdict.ensures c.start.result c.start.ensures _ _ c.in-At.is,
+    )
 
 pub returns-in-At : goal.returns-in-At
 unfolding step_of
