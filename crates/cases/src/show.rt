@@ -102,14 +102,18 @@ pub(crate) fn fail<R: Runtime>(rt: &R, what: &str, error: io::Error) {
     let _ = say(rt, what, error);
 }
 
-// The system's words for an error, without the number that follows them.
 fn say<R: Runtime>(rt: &R, what: &str, error: io::Error) -> io::Result<()> {
     let text = format!(in rt.alloc(); "{error}")?;
-    let words = match text.split_once(" (os error ") {
-        Some((words, _)) => words,
-        None => text.as_str(),
-    };
+    let words = words(text.as_str());
     eprintln!(rt; "{what}: {words}")
+}
+
+// The system's words for an error, without the number that follows them.
+fn words(text: &str) -> &str {
+    match text.split_once(" (os error ") {
+        Some((words, _)) => words,
+        None => text,
+    }
 }
 
 fn wide(x: u8) -> u64 {

@@ -1,4 +1,4 @@
--- A file that was read had room for its points: 10 is the last check, and no check applied. Assumes nothing.
+-- A file that was read had room for its points: 10 is the last check, and no check applied.
 use Prim.Native.Nat.{ℕ, zero, suc, ◌≤◌}
 use native.Mathlib.Omega.{arith}
 use mathlib.Core.Bool.{Bool, true, false}
