@@ -72,7 +72,7 @@ pub fn front(space: &[u8], len: u64) -> &[u8]
     }
 }
 
-// Room for a list of cases, as `io::large_buffer` for a longer one.
+// Room for a list of cases.
 pub fn list_buffer() -> [u8; 262144]
     ensures { result ≡ replicate 262144 0 }
 {
