@@ -11,7 +11,7 @@ module _ (byte at : ℕ) (text : List ℕ) where
 
   pub found_later : at < length text → (get_or text at 0 ≡ byte → ⊥) → index_of byte (drop at text) ≡ index_of byte (drop (at + 1) text) + 1
   unfolding index_of
-  found_later more e = rw (drop-cons text at 0 more, ne_eqb _ byte e, add-one, add-one)
+  found_later more e = rw (drop-cons text at 0 more, ne_eqb _ byte e, add-one at, add-one)
 
   pub found_nowhere : length text ≤ at → index_of byte (drop at text) ≡ 0
   unfolding index_of
