@@ -1,14 +1,10 @@
--- The bytes of hexadecimal digits from the digits of one byte on, and past the last whole one; and the place and bytes of a word. Assumes nothing.
-use Prim.Native.Nat.{ℕ, suc, ◌+◌, ◌-◌, ◌*◌, ◌/◌, ◌<◌, ◌≤◌}
-use mathlib.Core.List.{List, [], ◌∷◌}
-use mathlib.Core.Path.{◌≡◌, refl}
+-- The bytes of hexadecimal digits from the digits of one byte on, and past the last whole one; and the place and bytes of a word.
+use Rattle.std.proofs.Common.{ℕ, suc, ◌+◌, ◌-◌, ◌*◌, ◌/◌, ◌<◌, ◌≤◌, ◌≡◌, refl, List, [], ◌∷◌, length, take, drop, get_or, set, arith, add-one, length-drop, drop-cons}
 use native.Mathlib.Nat.{sub-zero}
-use native.Mathlib.Numerals.{add-one}
-use native.Mathlib.Omega.{arith}
-use lib.ListN.{length, take, drop, get_or, set, length-drop, drop_of_length-le}
-use lib.Seq.{sets, take_all, take-length, drop-cons}
-use Rattle.bytes.specs.Bytes.{index_of, slice}
-use Rattle.case_words.specs.Words.{byte_of, bytes_of, laid, decimal_value}
+use lib.ListN.{drop_of_length-le}
+use lib.Seq.{take_all}
+use Rattle.std.proofs.lemmas.List.Edits.{sets}
+use Rattle.case_words.specs.Words.{index_of, byte_of, bytes_of, laid, decimal_value}
 
 few : (hex : List ℕ) → length hex < 2 → bytes_of hex ≡ []
 unfolding bytes_of
@@ -36,10 +32,9 @@ module _ (hex : List ℕ) (i : ℕ) where
   none over = few (drop (i * 2) hex) (simp length-drop (omega arith))
 
 -- As code has them, with the place of = in the word.
-module _ (word bytes : List ℕ) (mark : ℕ) (e : mark ≡ 0 + index_of 61 (slice 0 (length word) word)) where
+module _ (word bytes : List ℕ) (mark : ℕ) (e : mark ≡ 0 + index_of 61 (drop 0 word)) where
   mark_is : index_of 61 word ≡ mark
-  unfolding slice
-  mark_is = let is : mark ≡ 0 + index_of 61 word = rw take-length at e in omega arith
+  mark_is = let is : mark ≡ 0 + index_of 61 word = e in omega arith
 
   pub marked : laid bytes word ≡ sets bytes (decimal_value (take (mark - 0) word)) (bytes_of (take (length word - (mark + 1)) (drop (mark + 1) word)))
   unfolding laid

@@ -1,4 +1,5 @@
 -- The laws of a text's words, and of the bytes in them.
 
+mod Places
 mod Words
 mod Hex

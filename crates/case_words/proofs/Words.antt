@@ -1,18 +1,12 @@
--- The first word of a text reaches to the first blank, and the other words are those of what follows it. Assumes nothing.
-use Prim.Native.Nat.{ℕ, suc, ◌+◌, ◌-◌, ◌<◌}
-use mathlib.Core.Bool.{Bool, true, false}
-use mathlib.Core.List.{List, [], ◌∷◌}
-use mathlib.Core.Path.{◌≡◌, refl}
-use native.Mathlib.Omega.{arith}
-use lib.Dec.{eqb}
-use lib.ListN.{length, take, drop, get_or}
-use lib.Seq.{take-length, drop-cons, drop-drop}
-use Rattle.bytes.specs.Bytes.{index_of, index_after, slice}
-use Rattle.case_words.specs.Words.{joined, words_of}
+-- The first word of a text reaches to the first blank, and the other words are those of what follows it.
+use Rattle.std.proofs.Common.{ℕ, suc, ◌+◌, ◌-◌, ◌<◌, ◌≡◌, refl, Bool, true, false, List, [], ◌∷◌, length, take, drop, get_or, arith, drop-cons}
+use Rattle.std.specs.Prelude.{eqb}
+use Rattle.std.proofs.lemmas.List.{drop-drop}
+use Rattle.case_words.specs.Words.{index_of, joined, words_of}
 
 -- The words of a text that starts with b, by whether b is a blank.
 first : (text : List ℕ) (b : ℕ) (is_blank : Bool) → eqb b 32 ≡ is_blank → words_of (b ∷ text) ≡ take (index_of 32 (b ∷ text)) (b ∷ text) ∷ words_of (drop (suc (index_of 32 (b ∷ text))) (b ∷ text))
-unfolding words_of joined index_of index_after
+unfolding words_of joined index_of
 first [] b true e = rw e
 first [] b false e = rw e
 first (b' ∷ text) b true e = rw e
@@ -24,16 +18,14 @@ module _ (text : List ℕ) (at : ℕ) (more : at < length text) where
   cut = rw (drop-cons text at 0 more) (first (drop (suc at) text) (get_or text at 0) _ refl)
 
   -- As code has it, with the end of the word there.
-  pub next : (end : ℕ) → end ≡ at + index_of 32 (slice at (length text) text) → words_of (drop at text) ≡ take (end - at) (drop at text) ∷ words_of (drop (end + 1) text)
-  unfolding slice
-  next end e =
-      let is : end ≡ at + index_of 32 (drop at text) = rw take-length at e in
+  pub next : (end : ℕ) → end ≡ at + index_of 32 (drop at text) → words_of (drop at text) ≡ take (end - at) (drop at text) ∷ words_of (drop (end + 1) text)
+  next end is =
       let len : end - at ≡ index_of 32 (drop at text) = omega arith in
       let past : end + 1 ≡ at + suc (index_of 32 (drop at text)) = omega arith in
       rw (len, past, ← drop-drop) cut
 
   -- A rank that is counted down: at 0 it is the word's that is next, and above it one less of the words after that.
-  module _ (end : ℕ) (e : end ≡ at + index_of 32 (slice at (length text) text)) {rank : ℕ} {word : List ℕ} (is : get_or (words_of (drop at text)) rank [] ≡ word) where
+  module _ (end : ℕ) (e : end ≡ at + index_of 32 (drop at text)) {rank : ℕ} {word : List ℕ} (is : get_or (words_of (drop at text)) rank [] ≡ word) where
     pub here : rank ≡ 0 → take (end - at) (drop at text) ≡ word
     here none = rw (none, next end e) at is
 

@@ -3,7 +3,11 @@
 use Rattle.std.specs.Prelude.{ℕ, suc, ◌+◌, ◌-◌, ◌*◌, ◌%◌, cond, ltb, eqb, take, drop, get_or}
 use mathlib.Core.List.{List, [], ◌∷◌, foldl}
 use Rattle.std.proofs.lemmas.List.Edits.{sets}
-use Rattle.bytes.specs.Bytes.{index_of}
+
+-- The place of the first b in a list; where there is none, the list's length.
+unfoldable pub index_of : ℕ → List ℕ → ℕ
+index_of b [] = 0
+index_of b (x ∷ xs) = cond (eqb x b) 0 (suc (index_of b xs))
 
 -- The words with a byte before the first of them.
 unfoldable pub joined : ℕ → List (List ℕ) → List (List ℕ)

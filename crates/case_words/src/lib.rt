@@ -2,10 +2,27 @@
 
 #![tactic(auto)]
 
-ghost use Rattle.std.specs.Prelude.{◌≡◌, ◌+◌, replicate, set, take};
+ghost use Rattle.std.specs.Prelude.{◌≡◌, ◌+◌, ◌≤◌, replicate, set, take, drop, length};
 ghost use Rattle.std.proofs.lemmas.List.Edits.{sets};
 ghost use Rattle.case_words.specs.Pattern.{pattern_of};
-ghost use Rattle.case_words.specs.Words.{byte_of, bytes_of, hex_digit, laid, laid_all, decimal_value, with_digit, word_of, words_of};
+ghost use Rattle.case_words.specs.Words.{byte_of, bytes_of, index_of, hex_digit, laid, laid_all, decimal_value, with_digit, word_of, words_of};
+
+// The first place of a byte from a place on; where it is not there, the text's end.
+#[tactic(auto, using(crate::proofs::Places::found_here, crate::proofs::Places::found_later, crate::proofs::Places::found_nowhere))]
+pub fn find(text: &[u8], from: usize, byte: u8) -> usize
+    requires { from ≤ length text.now }
+    ensures place { result ≡ from + index_of byte (drop from text.now) }
+    ensures within { result ≤ length text.now }
+{
+    let mut at = from;
+    while at < text.len() {
+        if text[at] == byte {
+            return at;
+        }
+        at += 1;
+    }
+    at
+}
 
 // The word of a rank; where there is none, an empty one.
 pub fn word(text: &[u8], rank: usize) -> &[u8]
@@ -14,7 +31,7 @@ pub fn word(text: &[u8], rank: usize) -> &[u8]
     let mut at: usize = 0;
     let mut left = rank;
     while at < text.len() {
-        let end = bytes::scan::find(text, at, text.len(), b' ');
+        let end = find(text, at, b' ');
         if left == 0 {
             return &text[at..end];
         }
@@ -37,7 +54,7 @@ pub fn lay(text: &[u8], space: &mut [u8])
 {
     let mut at: usize = 0;
     while at < text.len() {
-        let end = bytes::scan::find(text, at, text.len(), b' ');
+        let end = find(text, at, b' ');
         lay_word(&text[at..end], space);
         at = end + 1;
     }
@@ -55,7 +72,7 @@ pub fn front(space: &[u8], len: u64) -> &[u8]
     }
 }
 
-// Room for a list of cases, as `io::large_buffer` for a longer one.
+// Room for a list of cases.
 pub fn list_buffer() -> [u8; 262144]
     ensures { result ≡ replicate 262144 0 }
 {
@@ -85,7 +102,7 @@ impl Pattern {
 fn lay_word(word: &[u8], space: &mut [u8])
     ensures { space.new ≡ laid space.old word.now }
 {
-    let mark = bytes::scan::find(word, 0, word.len(), b'=');
+    let mark = find(word, 0, b'=');
     if mark < word.len() {
         let place = decimal(&word[0..mark]);
         lay_hex(&word[mark + 1..word.len()], place as usize, space);
@@ -113,12 +130,14 @@ fn put(space: &mut [u8], at: usize, i: usize, b: u8)
     space[at + i] = b;
 }
 
+#[tactic(auto, unfolding(crate::specs::Words::hex_digit))]
 fn byte(high: u8, low: u8) -> u8
     ensures { result ≡ byte_of high low }
 {
     hex_digit(high) * 16 + hex_digit(low)
 }
 
+#[tactic(auto, unfolding(crate::specs::Words::hex_digit))]
 fn hex_digit(b: u8) -> u8
     ensures { result ≡ hex_digit b }
 {
@@ -135,6 +154,7 @@ fn decimal(word: &[u8]) -> u64
     n
 }
 
+#[tactic(auto, unfolding(crate::specs::Words::with_digit))]
 fn with_digit(n: u64, b: u8) -> u64
     ensures { result ≡ with_digit n b }
 {

@@ -11,13 +11,13 @@ const OS_128: u8 = 6;
 
 // A number for each sensor, and 0 for what is none.
 pub(crate) fn sensor_of(name: &[u8]) -> u8 {
-    if check::same(name, b"ouster") {
+    if name == b"ouster".as_slice() {
         return OUSTER;
     }
-    if check::same(name, b"os1-64") {
+    if name == b"os1-64".as_slice() {
         return OS1_64;
     }
-    if check::same(name, b"os-128") {
+    if name == b"os-128".as_slice() {
         return OS_128;
     }
     0

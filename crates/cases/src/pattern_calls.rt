@@ -2,6 +2,7 @@
 
 use crate::{parameters, show};
 use lidar::Answer;
+use std::rt::Runtime;
 
 const KITTI: u8 = 1;
 
@@ -9,7 +10,7 @@ const LVX: u8 = 2;
 
 const LVX2: u8 = 3;
 
-pub(crate) fn tell(name: &[u8], text: &[u8], data: &[u8]) -> bool {
+pub(crate) fn tell<R: Runtime>(rt: &R, name: &[u8], text: &[u8], data: &[u8]) -> bool {
     let reader = reader_of(name);
     if reader == 0 {
         return false;
@@ -17,25 +18,26 @@ pub(crate) fn tell(name: &[u8], text: &[u8], data: &[u8]) -> bool {
     let mut bits = [7u32; 24];
     let mut kinds = [9u8; 8];
     let room = parameters::room(case_words::number(text, 3));
-    tell_in_room(reader, data, room, room * 3, &mut bits, &mut kinds);
+    tell_in_room(rt, reader, data, room, room * 3, &mut bits, &mut kinds);
     true
 }
 
 // A number for each reader, and 0 for what is none.
 fn reader_of(name: &[u8]) -> u8 {
-    if check::same(name, b"kitti-bits") {
+    if name == b"kitti-bits".as_slice() {
         return KITTI;
     }
-    if check::same(name, b"lvx") {
+    if name == b"lvx".as_slice() {
         return LVX;
     }
-    if check::same(name, b"lvx2") {
+    if name == b"lvx2".as_slice() {
         return LVX2;
     }
     0
 }
 
-fn tell_in_room(
+fn tell_in_room<R: Runtime>(
+    rt: &R,
     reader: u8,
     data: &[u8],
     room: usize,
@@ -46,8 +48,8 @@ fn tell_in_room(
     if room <= kinds.len() {
         if count <= bits.len() {
             let answer = read(reader, data, &mut bits[0..count], &mut kinds[0..room]);
-            show::answer(answer, &kinds[0..room]);
-            show::patterns(&bits[0..count]);
+            show::answer(rt, answer, &kinds[0..room]);
+            show::patterns(rt, &bits[0..count]);
         }
     }
 }

@@ -2,6 +2,7 @@
 
 use crate::{ouster_parameters, parameters, show};
 use lidar::Answer;
+use std::rt::Runtime;
 
 const KITTI: u8 = 1;
 
@@ -9,7 +10,7 @@ const PACKET: u8 = 2;
 
 const VELODYNE: u8 = 3;
 
-pub(crate) fn tell(name: &[u8], text: &[u8], data: &[u8]) -> bool {
+pub(crate) fn tell<R: Runtime>(rt: &R, name: &[u8], text: &[u8], data: &[u8]) -> bool {
     let reader = reader_of(name);
     if reader == 0 {
         return false;
@@ -17,25 +18,35 @@ pub(crate) fn tell(name: &[u8], text: &[u8], data: &[u8]) -> bool {
     let mut numbers = [7.0; 24];
     let mut kinds = [9u8; 8];
     let room = parameters::room(case_words::number(text, 3));
-    tell_in_room(reader, text, data, room, room * 3, &mut numbers, &mut kinds);
+    tell_in_room(
+        rt,
+        reader,
+        text,
+        data,
+        room,
+        room * 3,
+        &mut numbers,
+        &mut kinds,
+    );
     true
 }
 
 // A number for each reader, and 0 for what is none.
 fn reader_of(name: &[u8]) -> u8 {
-    if check::same(name, b"kitti") {
+    if name == b"kitti".as_slice() {
         return KITTI;
     }
-    if check::same(name, b"packet") {
+    if name == b"packet".as_slice() {
         return PACKET;
     }
-    if check::same(name, b"velodyne") {
+    if name == b"velodyne".as_slice() {
         return VELODYNE;
     }
     ouster_parameters::sensor_of(name)
 }
 
-fn tell_in_room(
+fn tell_in_room<R: Runtime>(
+    rt: &R,
     reader: u8,
     text: &[u8],
     data: &[u8],
@@ -53,8 +64,8 @@ fn tell_in_room(
                 &mut numbers[0..count],
                 &mut kinds[0..room],
             );
-            show::answer(answer, &kinds[0..room]);
-            show::values(&numbers[0..count]);
+            show::answer(rt, answer, &kinds[0..room]);
+            show::values(rt, &numbers[0..count]);
         }
     }
 }

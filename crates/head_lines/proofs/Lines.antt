@@ -1,27 +1,25 @@
--- The bytes that code puts together are those of the line. Assumes nothing.
+-- The bytes that code puts together are those of the line.
 use Prim.Native.Nat.{ℕ, ◌+◌, ◌-◌, ◌≤◌}
 use native.Mathlib.Nat.{zero-add}
 use native.Mathlib.Omega.{arith}
-use mathlib.Core.Path.{◌≡◌, sym, ap, ◌∙◌}
+use mathlib.Core.Path.{◌≡◌, refl, sym, ap, ◌∙◌}
 use mathlib.Core.List.{List, [], ◌∷◌, ◌++◌, append_assoc, append-nil}
-use lib.ListN.{length, take, drop, length-append}
-use lib.Seq.{take-length, length-take-le}
+use lib.ListN.{length, take, length-append}
+use lib.Seq.{length-take-le}
 use borrow.Author.Tests.{eq-eqb, ne_eqb}
-use borrow.Rule.Slice.PartMut.{mid_of, put_mid}
+use borrow.Rule.Slice.PartMut.{put_mid}
 use Rattle.answers.specs.declared.Refusal.{Refusal}
 use Rattle.answers.specs.Answer.{refusal_number, refusal_points}
 use Rattle.io.specs.Counts.{IsPrefixLen}
 use Rattle.points.specs.ReadInto.{over}
-use Rattle.points.proofs.Laying.{tail_lent, tail_back}
 use Rattle.points.proofs.Lists.{after, over_more}
 use Rattle.head_lines.specs.Appended.{Appended}
 use Rattle.head_lines.specs.HeadLines.{decimal, points_text, frames_text, refused_text, space, line_end, head_line, refusal_line}
 
--- a part of the line that runs to its end, lent to the copy and put back
-pub copied : (text old : List ℕ) (at : ℕ) {new : List ℕ} {n : ℕ} → at ≤ length old → n ≡ length text → new ≡ take (length text) text ++ drop (length text) (mid_of at (length old - at) old)
-    → Appended text old at (put_mid at (length old - at) old new) (at + n)
+-- a part of the line as long as the text, lent to the copy and put back
+pub copied : (text old : List ℕ) (at : ℕ) {new : List ℕ} → new ≡ text → Appended text old at (put_mid at (at + length text - at) old new) (at + length text)
 unfolding over
-copied text old at {new} h e f = (rw e, tail_back at old h new ∙ rw (f, take-length, tail_lent at old h))
+copied text old at e = let long : at + length text - at ≡ length text = omega arith in (refl, rw (e, long))
 
 -- one text and then another after it
 pub both : (text more line : List ℕ) (at : ℕ) {line' line'' : List ℕ} {mid next : ℕ} → at ≤ length line → Appended text line at line' mid → Appended more line' mid line'' next

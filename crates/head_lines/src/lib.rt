@@ -10,6 +10,9 @@ ghost use Rattle.head_lines.specs.Appended.{Appended};
 
 use answers::Refusal;
 
+// The refusal that tells the points needed.
+const NO_ROOM: u8 = 10;
+
 // The first line of what was read. It goes over the front of line, and the answer is its length:
 // 56 bytes at most, since a usize has at most 20 digits.
 pub fn head_line(points: usize, frames: usize, line: &mut [u8; 64]) -> usize
@@ -30,7 +33,7 @@ pub fn refusal_line(refusal: Refusal, line: &mut [u8; 64]) -> usize
 {
     let number = refusal.number();
     let at = append_number(b"refused ", number as usize, line, 0);
-    if number == 10 {
+    if number == NO_ROOM {
         let at = append_number(b" ", refusal.points_needed(), line, at);
         append(b"\n", line, at)
     } else {
@@ -43,8 +46,9 @@ fn append(text: &[u8], line: &mut [u8], at: usize) -> usize
     requires { at + length text.now ≤ length line.old }
     ensures { Appended text.now line.old at line.new result }
 {
-    let n = bytes::copy(text, &mut line[at..]);
-    at + n
+    let end = at + text.len();
+    line[at..end].copy_from_slice(text);
+    end
 }
 
 // Puts text and after it the decimal digits of n into line at an index, and answers the index

@@ -1,9 +1,12 @@
-// Tells how reading an input into a buffer ended, from what the system answered.
+// Reads an input into a buffer, and tells how that ended, from what the system answered.
 
 #![tactic(auto)]
 
-ghost use Rattle.std.specs.Prelude.{◌≡◌};
-ghost use Rattle.input.specs.Ended.{ended};
+ghost use Rattle.std.specs.Prelude.{◌≡◌, ◌≤◌, length};
+ghost use Rattle.input.specs.Ended.{answer, ended};
+
+use std::io;
+use std::io::Read;
 
 // How reading ended.
 #[derive(Clone, Copy)]
@@ -17,7 +20,7 @@ pub enum Ended {
 }
 
 impl Ended {
-    // `io::read_full` stops alike where the input ends and where a read fails, and answers the `len` bytes
+    // `read_full` stops alike where the input ends and where a read fails, and answers the `len` bytes
     // that a buffer of `room` then has. What one read more answers tells the two apart.
     pub fn of(len: usize, room: usize, more: isize) -> Self
         ensures { result ≡ ended len room more }
@@ -33,5 +36,42 @@ impl Ended {
             };
         }
         Ended::Whole
+    }
+}
+
+// Reads until buf is full, the input ends or a read fails, and answers how many bytes it put at the
+// front of buf.
+pub fn read_full<R: Read>(reader: &mut R, buf: &mut [u8]) -> usize
+    ensures { result ≤ length buf.new }
+{
+    let mut done: usize = 0;
+    while done < buf.len() {
+        let n = read(reader, &mut buf[done..]);
+        if n == 0 {
+            return done;
+        }
+        done += n;
+    }
+    done
+}
+
+// One read: how many bytes it put at the front of buf, and 0 where it failed.
+fn read<R: Read>(reader: &mut R, buf: &mut [u8]) -> usize
+    ensures { result ≤ length buf.new }
+{
+    match reader.read(buf) {
+        Ok(n) => n,
+        Err(_) => 0,
+    }
+}
+
+// What a read answered, as `Ended::of` takes it.
+pub fn answered(more: &io::Result<usize>) -> isize
+    ensures { result ≡ answer more.now }
+{
+    match more {
+        Ok(0) => 0,
+        Ok(_) => 1,
+        Err(_) => -1,
     }
 }

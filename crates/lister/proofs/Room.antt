@@ -1,4 +1,4 @@
--- A file that was read had room for its points: 10 is the last check, and no check applied. Assumes nothing.
+-- A file that was read had room for its points: 10 is the last check, and no check applied.
 use Prim.Native.Nat.{ℕ, zero, suc, ◌≤◌}
 use native.Mathlib.Omega.{arith}
 use mathlib.Core.Bool.{Bool, true, false}
@@ -8,7 +8,7 @@ use lib.ListN.{length}
 use Rattle.answers.specs.declared.Answer.{Answer}
 use Rattle.answers.specs.declared.Answer.TheVariants.{Read}
 use Rattle.points.specs.Point.{PointOf}
-use Rattle.points.specs.ReadInto.{Check, first_refusal, lacks_room, number_given, outcome, outcome_of, read_into, answered}
+use Rattle.points.specs.ReadInto.{Check, first_refusal, number_given, outcome, outcome_of, read_into, answered}
 use Rattle.points.proofs.ReadInto.{Numbered, first_passes, first_decides, has_room}
 use Rattle.livox_form.specs.declared.Form.{Form}
 use Rattle.livox_header.proofs.Opening.{numbered}

@@ -18,54 +18,65 @@ mod rank_calls;
 mod show;
 
 use input::Ended;
-use libc::STDIN_FILENO;
+use std::io;
+use std::io::{ErrorKind, Read};
+use std::rt::Runtime;
 
-fn main() {
+fn main(rt: HostRuntime) {
+    let mut reader = rt.stdin();
     let mut space = case_words::list_buffer();
-    let len = io::read_full(STDIN_FILENO, &mut space);
+    let len = input::read_full(&mut reader, &mut space);
     let mut next = [0u8; 1];
-    let more = libc::read(STDIN_FILENO, &mut next);
-    match Ended::of(len, space.len(), more) {
-        Ended::Whole => run(&space[..len]),
+    let more = reader.read(&mut next);
+    match Ended::of(len, space.len(), input::answered(&more)) {
+        Ended::Whole => run(&rt, &space[..len]),
         Ended::TooLong => {
-            show::write(b"too long\n");
+            show::write(&rt, b"too long\n");
         }
-        Ended::Failed => os::fail(b"point_cases: standard input"),
+        Ended::Failed => show::fail(&rt, "point_cases: standard input", reason(more)),
+    }
+}
+
+// Why reading failed. Where one more read gave bytes, the one before it was interrupted.
+fn reason(more: io::Result<usize>) -> io::Error {
+    match more {
+        Ok(_) => io::Error::from(ErrorKind::Interrupted),
+        Err(error) => error,
     }
 }
 
 // Goes on while what is told can be written.
-fn run(text: &[u8]) {
+fn run<R: Runtime>(rt: &R, text: &[u8]) {
     let mut at: usize = 0;
     while at < text.len() {
-        let end = bytes::scan::find(text, at, text.len(), b'\n');
-        if !case(&text[at..end]) {
+        let end = case_words::find(text, at, b'\n');
+        if !case(rt, &text[at..end]) {
             return;
         }
         at = end + 1;
     }
 }
 
-fn case(line: &[u8]) -> bool {
-    let colon = bytes::scan::find(line, 0, line.len(), b':');
-    if !show::write(&line[0..colon]) {
+fn case<R: Runtime>(rt: &R, line: &[u8]) -> bool {
+    let colon = case_words::find(line, 0, b':');
+    if !show::write(rt, &line[0..colon]) {
         return false;
     }
-    show::write(b":");
-    call(&line[colon..line.len()]);
-    show::write(b"\n")
+    show::write(rt, b":");
+    call(rt, &line[colon..line.len()]);
+    show::write(rt, b"\n")
 }
 
 // Words are counted from the colon, which is word 0: the call is word 1, and the file's length word 2.
-fn call(text: &[u8]) {
+fn call<R: Runtime>(rt: &R, text: &[u8]) {
     let mut space = [0u8; 32768];
     case_words::lay(text, &mut space);
     let data = case_words::front(&space, case_words::number(text, 2));
-    if !tell(case_words::word(text, 1), text, data) {
-        show::write(b" no such call");
+    if !tell(rt, case_words::word(text, 1), text, data) {
+        show::write(rt, b" no such call");
     }
 }
 
-fn tell(name: &[u8], text: &[u8], data: &[u8]) -> bool {
-    rank_calls::tell(name, text, data) || place_calls::tell(name, text, data)
+fn tell<R: Runtime>(rt: &R, name: &[u8], text: &[u8], data: &[u8]) -> bool {
+    rank_calls::tell(rt, name, text, data) || place_calls::tell(rt, name, text, data)
 }

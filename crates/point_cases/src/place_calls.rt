@@ -6,22 +6,23 @@ use lidar::{
     TenMillimetres, UnsignedMillimetres,
 };
 use signed_fields::{I16, I32};
+use std::rt::Runtime;
 
-pub(crate) fn tell(name: &[u8], text: &[u8], data: &[u8]) -> bool {
-    if check::same(name, b"millimetres") {
-        place(millimetres(data), text);
+pub(crate) fn tell<R: Runtime>(rt: &R, name: &[u8], text: &[u8], data: &[u8]) -> bool {
+    if name == b"millimetres".as_slice() {
+        place(rt, millimetres(data), text);
         return true;
     }
-    if check::same(name, b"ten-millimetres") {
-        place(ten_millimetres(data), text);
+    if name == b"ten-millimetres".as_slice() {
+        place(rt, ten_millimetres(data), text);
         return true;
     }
-    if check::same(name, b"spherical") {
-        place(spherical(), text);
+    if name == b"spherical".as_slice() {
+        place(rt, spherical(), text);
         return true;
     }
-    if check::same(name, b"float") {
-        place(StoredReading::Float(0x3f800000, 0, 0), text);
+    if name == b"float".as_slice() {
+        place(rt, StoredReading::Float(0x3f800000, 0, 0), text);
         return true;
     }
     false
@@ -49,13 +50,16 @@ fn spherical() -> StoredReading {
     }
 }
 
-fn place(reading: StoredReading, text: &[u8]) {
-    show::placed(lidar::place(
-        reading,
-        BeltCount(low(case_words::number(text, 3))),
-        BeltDatum(low(case_words::number(text, 4))),
-        PulseLength(low(case_words::number(text, 5))),
-    ));
+fn place<R: Runtime>(rt: &R, reading: StoredReading, text: &[u8]) {
+    show::placed(
+        rt,
+        lidar::place(
+            reading,
+            BeltCount(low(case_words::number(text, 3))),
+            BeltDatum(low(case_words::number(text, 4))),
+            PulseLength(low(case_words::number(text, 5))),
+        ),
+    );
 }
 
 pub(crate) fn low(n: u64) -> u32 {

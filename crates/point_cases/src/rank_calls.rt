@@ -3,39 +3,43 @@
 use crate::place_calls::low;
 use crate::show;
 use lidar::{BeltCount, BeltDatum, Form, PulseLength};
+use std::rt::Runtime;
 
-pub(crate) fn tell(name: &[u8], text: &[u8], data: &[u8]) -> bool {
-    if check::same(name, b"lvx-rank") {
-        stored(Form::Lvx, text, data);
+pub(crate) fn tell<R: Runtime>(rt: &R, name: &[u8], text: &[u8], data: &[u8]) -> bool {
+    if name == b"lvx-rank".as_slice() {
+        stored(rt, Form::Lvx, text, data);
         return true;
     }
-    if check::same(name, b"lvx2-rank") {
-        stored(Form::Lvx2, text, data);
+    if name == b"lvx2-rank".as_slice() {
+        stored(rt, Form::Lvx2, text, data);
         return true;
     }
-    if check::same(name, b"place-lvx") {
-        place(Form::Lvx, text, data);
+    if name == b"place-lvx".as_slice() {
+        place(rt, Form::Lvx, text, data);
         return true;
     }
-    if check::same(name, b"place-lvx2") {
-        place(Form::Lvx2, text, data);
+    if name == b"place-lvx2".as_slice() {
+        place(rt, Form::Lvx2, text, data);
         return true;
     }
     false
 }
 
-fn stored(form: Form, text: &[u8], data: &[u8]) {
+fn stored<R: Runtime>(rt: &R, form: Form, text: &[u8], data: &[u8]) {
     let rank = case_words::number(text, 3) as usize;
-    show::stored(lidar::stored_reading(form, data, rank));
+    show::stored(rt, lidar::stored_reading(form, data, rank));
 }
 
-fn place(form: Form, text: &[u8], data: &[u8]) {
-    show::placed(lidar::place_in_file(
-        form,
-        data,
-        case_words::number(text, 3) as usize,
-        BeltCount(low(case_words::number(text, 4))),
-        BeltDatum(low(case_words::number(text, 5))),
-        PulseLength(low(case_words::number(text, 6))),
-    ));
+fn place<R: Runtime>(rt: &R, form: Form, text: &[u8], data: &[u8]) {
+    show::placed(
+        rt,
+        lidar::place_in_file(
+            form,
+            data,
+            case_words::number(text, 3) as usize,
+            BeltCount(low(case_words::number(text, 4))),
+            BeltDatum(low(case_words::number(text, 5))),
+            PulseLength(low(case_words::number(text, 6))),
+        ),
+    );
 }

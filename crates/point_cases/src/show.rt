@@ -1,50 +1,51 @@
 // What a call tells, as text.
 
 use case_words::Pattern;
-use libc::STDOUT_FILENO;
 use lidar::{Placed, StoredAnswer, StoredReading};
+use std::io;
+use std::rt::Runtime;
 
 // A stored reading: its type and its three numbers as the file has them, each as 32 bits.
-pub(crate) fn stored(answer: StoredAnswer) {
+pub(crate) fn stored<R: Runtime>(rt: &R, answer: StoredAnswer) {
     match answer {
-        StoredAnswer::Reading(reading) => stored_reading(reading),
-        StoredAnswer::Refused(refusal) => write_number(refusal.number() as u64),
+        StoredAnswer::Reading(reading) => stored_reading(rt, reading),
+        StoredAnswer::Refused(refusal) => write_number(rt, refusal.number() as u64),
     }
 }
 
-fn stored_reading(reading: StoredReading) {
+fn stored_reading<R: Runtime>(rt: &R, reading: StoredReading) {
     match reading {
         StoredReading::Millimetres(x, y, z) => {
-            write(b" millimetres");
-            write_three(word(x.0), word(y.0), word(z.0));
+            write(rt, b" millimetres");
+            write_three(rt, word(x.0), word(y.0), word(z.0));
         }
         StoredReading::TenMillimetres(x, y, z) => {
-            write(b" ten millimetres");
-            write_three(word(widen(x.0)), word(widen(y.0)), word(widen(z.0)));
+            write(rt, b" ten millimetres");
+            write_three(rt, word(widen(x.0)), word(widen(y.0)), word(widen(z.0)));
         }
         StoredReading::Spherical {
             depth,
             zenith,
             azimuth,
         } => {
-            write(b" spherical");
-            write_three(depth.0, zenith.0 as u32, azimuth.0 as u32);
+            write(rt, b" spherical");
+            write_three(rt, depth.0, zenith.0 as u32, azimuth.0 as u32);
         }
         StoredReading::Float(x, y, z) => {
-            write(b" float");
-            write_three(x, y, z);
+            write(rt, b" float");
+            write_three(rt, x, y, z);
         }
     }
 }
 
 // The number and, where it is 0, the distance.
-pub(crate) fn placed(placed: Placed) {
+pub(crate) fn placed<R: Runtime>(rt: &R, placed: Placed) {
     match placed {
         Placed::Metres(x) => {
-            write_number(0);
-            write_value(x);
+            write_number(rt, 0);
+            write_value(rt, x);
         }
-        Placed::Refused(refusal) => write_number(refusal.number() as u64),
+        Placed::Refused(refusal) => write_number(rt, refusal.number() as u64),
     }
 }
 
@@ -61,39 +62,61 @@ fn widen(n: i16) -> i32 {
     n as i32
 }
 
-fn write_three(x: u32, y: u32, z: u32) {
-    write_pattern(x);
-    write_pattern(y);
-    write_pattern(z);
+fn write_three<R: Runtime>(rt: &R, x: u32, y: u32, z: u32) {
+    write_pattern(rt, x);
+    write_pattern(rt, y);
+    write_pattern(rt, z);
 }
 
-fn write_value(x: f32) {
+fn write_value<R: Runtime>(rt: &R, x: f32) {
     match Pattern::of(x) {
-        Pattern::Bits(bits) => write_pattern(bits),
+        Pattern::Bits(bits) => write_pattern(rt, bits),
         Pattern::Nan => {
-            write(b" nan");
+            write(rt, b" nan");
         }
     }
 }
 
-fn write_pattern(bits: u32) {
-    write(b" ");
-    told(io::print_hex(STDOUT_FILENO, bits as u64, 8));
+fn write_pattern<R: Runtime>(rt: &R, bits: u32) {
+    write(rt, b" ");
+    told(rt, print!(rt; "{bits:08x}"));
 }
 
-fn write_number(n: u64) {
-    write(b" ");
-    told(io::print_decimal(STDOUT_FILENO, n));
+fn write_number<R: Runtime>(rt: &R, n: u64) {
+    write(rt, b" ");
+    told(rt, print!(rt; "{n}"));
 }
 
-pub(crate) fn write(text: &[u8]) -> bool {
-    told(io::write_all(STDOUT_FILENO, text))
+pub(crate) fn write<R: Runtime>(rt: &R, text: &[u8]) -> bool {
+    told(rt, rt.write_all(text))
 }
 
-// Where a write failed, standard error says why, since a program has no exit status of its own.
-fn told(written: bool) -> bool {
-    if !written {
-        os::fail(b"point_cases: standard output");
+// Whether all was written. If not, standard error says why.
+fn told<R: Runtime>(rt: &R, written: io::Result<()>) -> bool {
+    match written {
+        Ok(()) => true,
+        Err(error) => {
+            fail(rt, "point_cases: standard output", error);
+            false
+        }
     }
-    written
+}
+
+// Says on standard error what failed, and why. Where that fails, too, nothing is left to be said.
+pub(crate) fn fail<R: Runtime>(rt: &R, what: &str, error: io::Error) {
+    let _ = say(rt, what, error);
+}
+
+fn say<R: Runtime>(rt: &R, what: &str, error: io::Error) -> io::Result<()> {
+    let text = format!(in rt.alloc(); "{error}")?;
+    let words = words(text.as_str());
+    eprintln!(rt; "{what}: {words}")
+}
+
+// The system's words for an error, without the number that follows them.
+fn words(text: &str) -> &str {
+    match text.split_once(" (os error ") {
+        Some((words, _)) => words,
+        None => text,
+    }
 }

@@ -6,19 +6,21 @@ ghost use Rattle.std.specs.Prelude.{◌≡◌, ◌/◌, ◌%◌, ◌<◌};
 ghost use Rattle.point_lines.specs.PointLine.{glyph, hex_digits, letter, point_line};
 
 // The line of a point: c or p by its kind, and its three numbers' patterns.
+#[tactic(auto, unfolding(crate::specs::PointLine::point_line, crate::specs::PointLine::hex_digits))]
 pub fn point_line(kind: u8, x: u32, y: u32, z: u32) -> [u8; 29]
     ensures { result ≡ point_line kind x y z }
 {
     let mut line = [b' '; 29];
     line[0] = letter(kind);
-    bytes::copy(&hex(x), &mut line[2..10]);
-    bytes::copy(&hex(y), &mut line[11..19]);
-    bytes::copy(&hex(z), &mut line[20..28]);
+    line[2..10].copy_from_slice(&hex(x));
+    line[11..19].copy_from_slice(&hex(y));
+    line[20..28].copy_from_slice(&hex(z));
     line[28] = b'\n';
     line
 }
 
 // Eight lower-case hexadecimal digits.
+#[tactic(auto, unfolding(crate::specs::PointLine::hex_digits))]
 pub fn hex(n: u32) -> [u8; 8]
     ensures { result ≡ hex_digits n }
 {
@@ -34,6 +36,7 @@ pub fn hex(n: u32) -> [u8; 8]
     ]
 }
 
+#[tactic(auto, unfolding(crate::specs::PointLine::letter))]
 fn letter(kind: u8) -> u8
     ensures { result ≡ letter kind }
 {

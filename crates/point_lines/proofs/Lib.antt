@@ -1,2 +1,0 @@
--- The laws of a point's line.
-mod Lines
