@@ -1,8 +1,6 @@
 -- `livox_header::has_lvx_signature` meets its contract. The loop's invariant: the bytes passed are those of the mark, so that the rest decides. Assumes nothing.
-use Prim.Native.Nat.{◌-◌, ◌≤◌}
 use native.Mathlib.Omega.{arith}
-use mathlib.Core.Path.{◌≡◌, refl, sym, ◌∙◌}
-use lib.ListN.{drop}
+use mathlib.Core.Path.{◌≡◌, sym, ◌∙◌}
 use Rattle.livox_header.specs.Header.{starts_with, lvx_mark}
 use Rattle.livox_header.proofs.Checks.{too_few, same_byte, other_byte}
 use Rattle.livox_header.proofs.has_lvx_signature.Goals as goal
@@ -22,4 +20,3 @@ loop-i-preserved c = (omega arith, c.loop-i.invariant.1 ∙ same_byte lvx_mark _
 pub returns : goal.returns
 unfolding lvx_mark starts_with
 returns c = let all : c.loop-i.i ≡ 10 = omega arith in sym (c.loop-i.invariant.1 ∙ rw all)
-

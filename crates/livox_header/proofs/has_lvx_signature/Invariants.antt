@@ -1,10 +1,8 @@
 -- `livox_header::has_lvx_signature` meets its contract. The loop's invariant: the bytes passed are those of the mark, so that the rest decides. Assumes nothing.
 use Prim.Native.Nat.{◌-◌, ◌≤◌}
-use native.Mathlib.Omega.{arith}
-use mathlib.Core.Path.{◌≡◌, refl, sym, ◌∙◌}
+use mathlib.Core.Path.{◌≡◌}
 use lib.ListN.{drop}
 use Rattle.livox_header.specs.Header.{starts_with, lvx_mark}
-use Rattle.livox_header.proofs.Checks.{too_few, same_byte, other_byte}
 use Rattle.livox_header.proofs.has_lvx_signature.Given as goal
 
 abbrev pub invariant-loop-i : goal.invariant-loop-i

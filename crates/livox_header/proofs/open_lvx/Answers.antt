@@ -2,11 +2,9 @@
 use Prim.Native.Nat.{◌+◌, ◌*◌}
 use native.Mathlib.Omega.{arith}
 use mathlib.Core.Path.{◌≡◌, sym, ◌∙◌}
-use borrow.Author.Tests.{not-true, not-false}
 use Rattle.livox_form.specs.declared.Form.TheVariants.{Lvx}
 use Rattle.livox_header.specs.Header.{base, opening}
 use Rattle.livox_header.proofs.Checks.{lvx_too_short, lvx_wrong_mark, lvx_wrong_code, lvx_header_too_short, lvx_devices_past_end, lvx_opens}
-use borrow.Author.Rules.{rules}
 use Rattle.livox_header.proofs.open_lvx.Goals as goal
 
 pub returns-then-size-lt24 : goal.returns-then-size-lt24
@@ -38,4 +36,3 @@ returns c =
     let bytes = c.args.«data».now in
     let place : base Lvx bytes ≡ 29 + c.wide.result * 59 = omega (arith, c.wide.ensures) in
     rw (lvx_opens bytes c.requires c.if-size-lt24.false (sym c.has_lvx_signature.ensures ∙ c.if-not-has_lvx_signature.false) (sym c.u32_at.ensures ∙ c.if-u32_at-ne-LVX_MAGIC_CODE.false) c.if-size-lt29.false (omega arith), place)
-

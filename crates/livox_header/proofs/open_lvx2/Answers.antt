@@ -5,7 +5,6 @@ use mathlib.Core.Path.{◌≡◌, sym, ◌∙◌}
 use Rattle.livox_form.specs.declared.Form.TheVariants.{Lvx2}
 use Rattle.livox_header.specs.Header.{base, opening}
 use Rattle.livox_header.proofs.Checks.{lvx2_too_short, lvx2_wrong_mark, lvx2_devices_past_end, lvx2_opens}
-use borrow.Author.Rules.{rules}
 use Rattle.livox_header.proofs.open_lvx2.Goals as goal
 
 pub returns-then-size-lt28 : goal.returns-then-size-lt28
@@ -27,4 +26,3 @@ unfolding base opening
 returns c = let bytes = c.args.«data».now in
     let place : base Lvx2 bytes ≡ c.u32_at-2.result + c.wide.result * 41 = omega (arith, c.u32_at-2.ensures, c.wide.ensures) in
     rw (lvx2_opens bytes c.requires c.if-size-lt28.false (sym c.u32_at.ensures ∙ c.if-u32_at-ne-LVX2_MAGIC_CODE.false) (omega arith), place)
-

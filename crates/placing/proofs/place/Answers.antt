@@ -48,4 +48,3 @@ returns-in-Spherical-clause-placed c = (placed c.in-Spherical.is _ _ _ none (not
 pub returns-in-Float-clause-placed : goal.returns-in-Float-clause-placed
 unfolding first_refusal
 returns-in-Float-clause-placed c = (placed c.in-Float.is _ _ _ none (not_placeable _ _ _ _ tt refl refl) refl).0
-

@@ -15,11 +15,11 @@ module _ (x r : ℤ) (fits : SFits w64 x) (near : mag x < 2 ^ 45) (ok : SFits w6
   holds : SFits w64 (x +ℤ r)
   holds = omega (arith, sum_in x r)
 
--- OTHER
+  -- OTHER
   sum_fits : SFits w64 (to_z w64 (of_z w64 x) +ℤ to_z w64 (of_z w64 r))
   sum_fits = rw (to_z-of_z w64 x fits, to_z-of_z w64 r ok) holds
 
--- OTHER
+  -- OTHER
   sum_is : to_z w64 (of_z w64 (to_z w64 (of_z w64 x) +ℤ to_z w64 (of_z w64 r))) ≡ x +ℤ r
   sum_is = to_z-of_z w64 _ sum_fits ∙ rw (to_z-of_z w64 x fits, to_z-of_z w64 r ok)
 
@@ -48,4 +48,3 @@ returns c =
     ∙ ap (λ z. c.args.x +ℤ z) (c.times.ensures.value ∙ ap (λ z. z *ℤ pos c.args.pulse_length.0) moved) in
     let inside = ap outside (sym exact-is) ∙ sym c.is_outside.ensures ∙ c.if-is_outside.false in
     rw exact-is (within _ _ _ _ good inside)
-

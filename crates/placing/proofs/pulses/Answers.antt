@@ -8,4 +8,3 @@ use Rattle.placing.proofs.pulses.Goals as goal
 pub returns : goal.returns
 unfolding pulses
 returns c = to_z-of_z w32 _ (record { sfits = c.to_i32.type_inv }) ∙ c.to_i32.ensures ∙ ap (signed 32) c.wrapped.ensures
-

@@ -15,4 +15,3 @@ returns-in-Refused-clause-placed c = (answered _ _ _ _ _ _ c.in-Refused.is c.sto
 
 pub returns-in-Refused-clause-accurate : goal.returns-in-Refused-clause-accurate
 returns-in-Refused-clause-accurate c = (answered _ _ _ _ _ _ c.in-Refused.is c.stored_reading.ensures refl).1
-
