@@ -55,3 +55,28 @@ up_to_date() {
         if [ "$(state_of "$crate")" = "$state" ]; then echo "$state" >"$file.of"; fi
     fi
 }
+
+# Copies crates and those below them to another place, with what rt keeps of them, so that nothing is proved twice: rt
+# follows no link out of a repository.
+#
+#   copy_to PLACE CRATE ..
+copy_to() {
+    local place=$1 crate part
+    shift
+    mkdir -p "$place/.git"
+    for crate in $(for crate; do with_those_below "$crate"; done | sort -u); do
+        mkdir -p "$place/crates/$crate/out"
+        for part in src specs proofs; do
+            if [ -d "crates/$crate/$part" ]; then cp -R "crates/$crate/$part" "$place/crates/$crate"; fi
+        done
+        # What was proved is replaced by rt, and never changed, so that a second name will do.
+        if [ -d "crates/$crate/out/rlib" ]; then
+            cp -Rl "crates/$crate/out/rlib" "$place/crates/$crate/out" 2>/dev/null ||
+                cp -R "crates/$crate/out/rlib" "$place/crates/$crate/out"
+        fi
+        if [[ " $* " == *" $crate "* && -d crates/$crate/out/incremental ]]; then
+            cp -R "crates/$crate/out/incremental" "$place/crates/$crate/out"
+        fi
+        grep -E "^$crate( |:)" crates.txt >>"$place/crates.txt"
+    done
+}
