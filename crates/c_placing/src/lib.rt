@@ -1,4 +1,4 @@
-// Placing a point on the belt, as include/lidar.h declares the calls.
+// Placing a point on the belt, by the names and numbers of include/lidar.h. c_placing_c exports the calls.
 
 #![tactic(auto)]
 
@@ -13,8 +13,7 @@ use livox_stored::StoredReading;
 use placing::{BeltCount, BeltDatum, Placed, PulseLength, place, pulses};
 use units::{Millimetres, TenMillimetres};
 
-#[unsafe(no_mangle)]
-pub extern "C" fn lidar_place_millimetres(
+pub fn lidar_place_millimetres(
     x: i32,
     count: u32,
     datum: u32,
@@ -28,8 +27,7 @@ pub extern "C" fn lidar_place_millimetres(
     tell_place(in_millimetres, count, datum, pulse_length, metres)
 }
 
-#[unsafe(no_mangle)]
-pub extern "C" fn lidar_place_ten_millimetres(
+pub fn lidar_place_ten_millimetres(
     x: i16,
     count: u32,
     datum: u32,
@@ -47,8 +45,7 @@ pub extern "C" fn lidar_place_ten_millimetres(
     tell_place(in_ten_millimetres, count, datum, pulse_length, metres)
 }
 
-#[unsafe(no_mangle)]
-pub extern "C" fn lidar_pulses(count: u32, datum: u32) -> i32
+pub fn lidar_pulses(count: u32, datum: u32) -> i32
     ensures { result ≡ pulses count datum }
 {
     pulses(BeltCount(count), BeltDatum(datum)).0
