@@ -113,19 +113,27 @@ class Said:
     lacks    the functions whose proof files name what is not there
     waits    the functions that are not proved, whatever for
     errors   each error that is one itself, as `FILE: NAME`
+    false    the functions with a goal that is false at values that the prover found
     refused  the functions that are refused for a fact: where a proof file names what is not there, an open goal may be
-             the one that it answers, under another name, and counts for nothing"""
+             the one that it answers, under another name, and counts for nothing unless it is false"""
 
     def __init__(self, crate, log):
         self.is_refused = bool(re.search("^logic=not-proved", log, re.M))
         self.open, self.own, self.lacks, self.waits, self.errors, self.of_name = set(), set(), set(), set(), set(), False
+        self.false, is_false = set(), False
         for line in log.split("\n"):
+            # What is told of a function's goals stands before its own line.
+            is_false |= bool(re.match(r"note: src/\S+: it is not proved that .* the facts known there allow values at which this goal is false", line))
             answer = re.match(r"fn (\S+): (no proof|not proved)", line)
             if answer:
                 name = answer[1][len(crate) + 2 :]
                 self.waits.add(name)
                 if "`search` did not prove `" in line:
                     self.open.add(name)
+                if is_false:
+                    self.false.add(name)
+            if re.match(r"(fn|enum|struct) ", line):
+                is_false = False
             error = ERROR.match(line)
             if error and not FOLLOWS.search(error[3]):
                 at, is_name = error[1], bool(OF_NAME.search(error[3]))
@@ -135,4 +143,4 @@ class Said:
                 if function:
                     name = re.sub(r"(^|/)\+[^/]*/", r"\1", function[1]).replace("/", "::")
                     (self.lacks if is_name else self.own).add(name)
-        self.refused = self.own | self.open - self.lacks
+        self.refused = self.own | self.false | self.open - self.lacks
