@@ -10,9 +10,8 @@ ghost use Rattle.case_words.specs.Words.{byte_of, bytes_of, index_of, hex_digit,
 // The first place of a byte from a place on; where it is not there, the text's end.
 #[tactic(auto, using(crate::proofs::Places::found_here, crate::proofs::Places::found_later, crate::proofs::Places::found_nowhere))]
 pub fn find(text: &[u8], from: usize, byte: u8) -> usize
-    requires { from ≤ length text.now }
     ensures place { result ≡ from + index_of byte (drop from text.now) }
-    ensures within { result ≤ length text.now }
+    ensures within { from ≤ length text.now → result ≤ length text.now }
 {
     let mut at = from;
     while at < text.len() {
