@@ -121,8 +121,8 @@ class Said:
         self.is_refused = bool(re.search("^logic=not-proved", log, re.M))
         self.open, self.own, self.lacks, self.waits, self.errors, self.of_name = set(), set(), set(), set(), set(), False
         self.false, is_false = set(), False
-        # An error's words may go on, in lines that begin with two spaces.
-        for line in re.sub(r"(?m)(^(?:\./)?(?:src|specs|proofs)/.*: error: .*)\n(?=  )((?:  .*\n?)*)", lambda m: m[1] + " " + " ".join(m[2].split()) + "\n", log).split("\n"):
+        # Where a record's name is long, what it lacks stands in the line after it.
+        for line in re.sub(r"(?m)(: error: .*)\n  (has no )", r"\1 \2", log).split("\n"):
             # What is told of a function's goals stands before its own line.
             is_false |= bool(re.match(r"note: src/\S+: it is not proved that .* the facts known there allow values at which this goal is false", line))
             answer = re.match(r"fn (\S+): (no proof|not proved)", line)
