@@ -1,9 +1,8 @@
 -- The numbers a call may give back: what each case of code's answer stands for.
-use Rattle.std.specs.Prelude.{ℕ}
+use Rattle.std.specs.Prelude.{ℕ, Result, Ok, Err}
 use Rattle.answers.specs.declared.Refusal.{Refusal}
 use Rattle.answers.specs.declared.Refusal.TheVariants.{TooLong, BadSettings, TooShort, WrongMark, WrongCode, HeaderTooShort, DevicesPastEnd, NotWholeRecords, NoPayload, NoRoom, NotPlaceable, BadPulseLength, OutsideWindow}
-use Rattle.answers.specs.declared.Answer.{Answer}
-use Rattle.answers.specs.declared.Answer.TheVariants.{Read, Refused}
+use Rattle.answers.specs.declared.Counts.{Counts}
 
 -- What is told with a refusal: its number and no points, or 10 and the points needed.
 pub data Tells : Type 0 where
@@ -40,14 +39,14 @@ abbrev pub refusal_points : Refusal → ℕ
 refusal_points refusal = points_told (tells refusal)
 
 -- 0 when read.
-abbrev pub number_of : Answer → ℕ
-number_of (Read points frames) = 0
-number_of (Refused refusal) = refusal_number refusal
+abbrev pub number_of : Result Counts Refusal → ℕ
+number_of (Ok counts) = 0
+number_of (Err refusal) = refusal_number refusal
 
-abbrev pub points_of : Answer → ℕ
-points_of (Read points frames) = points
-points_of (Refused refusal) = refusal_points refusal
+abbrev pub points_of : Result Counts Refusal → ℕ
+points_of (Ok counts) = counts.points
+points_of (Err refusal) = refusal_points refusal
 
-abbrev pub frames_of : Answer → ℕ
-frames_of (Read points frames) = frames
-frames_of (Refused refusal) = 0
+abbrev pub frames_of : Result Counts Refusal → ℕ
+frames_of (Ok counts) = counts.frames
+frames_of (Err refusal) = 0

@@ -7,7 +7,7 @@ ghost use Rattle.answers.specs.Answer.{refusal_number, refusal_points, number_of
 
 // Why a call refuses, by the paper's numbers. A call makes its checks in an order of its own, and the
 // first that applies is told.
-#[derive(Clone, Copy)]
+#[derive(Clone, Copy, Debug, PartialEq, Eq)]
 pub enum Refusal {
     // 1: the data is longer than 2,147,483,647 bytes.
     TooLong,
@@ -37,10 +37,11 @@ pub enum Refusal {
     OutsideWindow,
 }
 
-#[derive(Clone, Copy)]
-pub enum Answer {
-    Read { points: usize, frames: usize },
-    Refused(Refusal),
+// What a reader read: the points that it told, and the frames that it entered.
+#[derive(Clone, Copy, Debug, PartialEq, Eq)]
+pub struct Counts {
+    pub points: usize,
+    pub frames: usize,
 }
 
 impl Refusal {
@@ -75,36 +76,31 @@ impl Refusal {
     }
 }
 
-impl Answer {
-    // 0 when read, else the refusal's number.
-    pub fn number(self) -> u8
-        ensures { result ≡ number_of self }
-    {
-        match self {
-            Answer::Read {
-                points: _,
-                frames: _,
-            } => 0,
-            Answer::Refused(refusal) => refusal.number(),
-        }
+// 0 where a reader read, else its refusal's number.
+pub fn number_of(answer: Result<Counts, Refusal>) -> u8
+    ensures { result ≡ number_of answer }
+{
+    match answer {
+        Ok(_) => 0,
+        Err(refusal) => refusal.number(),
     }
+}
 
-    // The points told, or those needed where there is no room.
-    pub fn points(self) -> usize
-        ensures { result ≡ points_of self }
-    {
-        match self {
-            Answer::Read { points, frames: _ } => points,
-            Answer::Refused(refusal) => refusal.points_needed(),
-        }
+// The points told, or those needed where there is no room.
+pub fn points_of(answer: Result<Counts, Refusal>) -> usize
+    ensures { result ≡ points_of answer }
+{
+    match answer {
+        Ok(counts) => counts.points,
+        Err(refusal) => refusal.points_needed(),
     }
+}
 
-    pub fn frames(self) -> usize
-        ensures { result ≡ frames_of self }
-    {
-        match self {
-            Answer::Read { points: _, frames } => frames,
-            Answer::Refused(_) => 0,
-        }
+pub fn frames_of(answer: Result<Counts, Refusal>) -> usize
+    ensures { result ≡ frames_of answer }
+{
+    match answer {
+        Ok(counts) => counts.frames,
+        Err(_) => 0,
     }
 }

@@ -1,2 +1,3 @@
--- What the byte readers mean.
+-- What a number in a run of bytes is, and a signed one.
 pub mod Number
+pub mod Signed

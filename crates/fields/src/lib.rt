@@ -1,126 +1,128 @@
-// Byte readers: an unsigned number at any offset of a byte slice, in either byte order. A number
-// that does not lie whole inside the slice is told as missing.
+// Byte readers: a number at any offset of a byte slice, in either byte order. A number that does not
+// lie whole inside the slice is told as missing.
 
 #![tactic(auto)]
 
-ghost use Rattle.std.specs.Prelude.{◌≡◌, [], ◌∷◌, ◌+◌, ◌≤◌, leb, length};
-ghost use Rattle.fields.specs.Number.{little, big, value, unsigned_at, field};
+ghost use Rattle.std.specs.Prelude.{◌≡◌, ℕ, ◌+◌, if◌then◌else◌, Some, None, length, take, drop, nat_le};
+ghost use Rattle.std.specs.Float.{binary32};
+ghost use Rattle.std.specs.Float.Ieee.{of_bits};
+ghost use Rattle.std.specs.Option.{option_copied};
+ghost use Rattle.fields.specs.Number.{field, least_first};
+ghost use Rattle.fields.specs.Signed.{signed};
 
-#[derive(Clone, Copy)]
-pub enum U16 {
-    Value(u16),
-    Missing,
+// Which byte of a number comes first: the least significant one, or the most significant one, as in
+// the headers of Ethernet, IP and UDP.
+#[derive(Clone, Copy, Debug, PartialEq, Eq)]
+pub enum ByteOrder {
+    Little,
+    Big,
 }
 
-#[derive(Clone, Copy)]
-pub enum U32 {
-    Value(u32),
-    Missing,
+// A number that takes a fixed count of bytes.
+pub trait Field: Copy {
+    ghost width: { ℕ };
+
+    // The number whose bytes have this value as an unsigned one.
+    ghost of_unsigned: { ℕ → Self };
+
+    fn read(data: &[u8], off: usize, order: ByteOrder) -> Option<Self>
+        ensures { result ≡ field of_unsigned order width «data».now off };
 }
 
-#[derive(Clone, Copy)]
-pub enum U64 {
-    Value(u64),
-    Missing,
-}
+impl Field for u16 {
+    ghost width = { 2 };
 
-pub fn read_u16_le(data: &[u8], off: usize) -> U16
-    ensures { result ≡ field U16.Value U16.Missing little 2 «data».now off }
-{
-    if lies_inside(data, off, 2) {
-        U16::Value(le_2(data, off))
-    } else {
-        U16::Missing
+    ghost of_unsigned = { λ n. n };
+
+    fn read(data: &[u8], off: usize, order: ByteOrder) -> Option<u16> {
+        let bytes = bytes_at::<2>(data, off)?;
+        Some(u16::from_le_bytes(least_first(bytes, order)))
     }
 }
 
-pub fn read_u32_le(data: &[u8], off: usize) -> U32
-    ensures { result ≡ field U32.Value U32.Missing little 4 «data».now off }
-{
-    if lies_inside(data, off, 4) {
-        U32::Value(le_4(data, off))
-    } else {
-        U32::Missing
+impl Field for u32 {
+    ghost width = { 4 };
+
+    ghost of_unsigned = { λ n. n };
+
+    fn read(data: &[u8], off: usize, order: ByteOrder) -> Option<u32> {
+        let bytes = bytes_at::<4>(data, off)?;
+        Some(u32::from_le_bytes(least_first(bytes, order)))
     }
 }
 
-pub fn read_u64_le(data: &[u8], off: usize) -> U64
-    ensures { result ≡ field U64.Value U64.Missing little 8 «data».now off }
-{
-    if lies_inside(data, off, 8) {
-        U64::Value(le_8(data, off))
-    } else {
-        U64::Missing
+impl Field for u64 {
+    ghost width = { 8 };
+
+    ghost of_unsigned = { λ n. n };
+
+    fn read(data: &[u8], off: usize, order: ByteOrder) -> Option<u64> {
+        let bytes = bytes_at::<8>(data, off)?;
+        Some(u64::from_le_bytes(least_first(bytes, order)))
     }
 }
 
-// The big-endian readers are for captures.
-pub fn read_u16_be(data: &[u8], off: usize) -> U16
-    ensures { result ≡ field U16.Value U16.Missing big 2 «data».now off }
-{
-    if lies_inside(data, off, 2) {
-        U16::Value(be_2(data, off))
-    } else {
-        U16::Missing
+impl Field for i16 {
+    ghost width = { 2 };
+
+    ghost of_unsigned = { signed 16 };
+
+    fn read(data: &[u8], off: usize, order: ByteOrder) -> Option<i16> {
+        let n = u16::read(data, off, order)?;
+        Some(n.cast_signed())
     }
 }
 
-pub fn read_u32_be(data: &[u8], off: usize) -> U32
-    ensures { result ≡ field U32.Value U32.Missing big 4 «data».now off }
-{
-    if lies_inside(data, off, 4) {
-        U32::Value(be_4(data, off))
-    } else {
-        U32::Missing
+impl Field for i32 {
+    ghost width = { 4 };
+
+    ghost of_unsigned = { signed 32 };
+
+    fn read(data: &[u8], off: usize, order: ByteOrder) -> Option<i32> {
+        let n = u32::read(data, off, order)?;
+        Some(n.cast_signed())
     }
 }
 
-// Whether `width` bytes from `off` on lie inside the data. Nothing is added to `off`, which may be
-// near 2^64.
-fn lies_inside(data: &[u8], off: usize, width: usize) -> bool
-    ensures { result ≡ leb (off + width) (length «data».now) }
-{
-    off <= data.len() && width <= data.len() - off
+impl Field for f32 {
+    ghost width = { 4 };
+
+    ghost of_unsigned = { of_bits binary32 };
+
+    fn read(data: &[u8], off: usize, order: ByteOrder) -> Option<f32> {
+        let bits = u32::read(data, off, order)?;
+        Some(f32_from_bits(bits))
+    }
 }
 
-fn le_2(data: &[u8], off: usize) -> u16
-    requires { off + 2 ≤ length «data».now }
-    ensures { result ≡ unsigned_at little 2 «data».now off }
+// The bytes from a place on, where so many are there.
+fn bytes_at<const N: usize>(data: &[u8], off: usize) -> Option<&[u8; N]>
+    ensures { option_copied result ≡ if nat_le (off + N) (length «data».now) then Some (take N (drop off «data».now)) else None }
 {
-    join_2(data[off], data[off + 1])
+    data.get(off..)?.first_chunk()
 }
 
-fn be_2(data: &[u8], off: usize) -> u16
-    requires { off + 2 ≤ length «data».now }
-    ensures { result ≡ unsigned_at big 2 «data».now off }
+// The bytes as a little-endian number has them.
+#[tactic(auto, unfolding(crate::specs::Number::least_first))]
+fn least_first<const N: usize>(bytes: &[u8; N], order: ByteOrder) -> [u8; N]
+    ensures { result ≡ least_first order bytes.now }
 {
-    join_2(data[off + 1], data[off])
+    let mut bytes = *bytes;
+    match order {
+        ByteOrder::Little => {}
+        ByteOrder::Big => bytes.reverse(),
+    }
+    bytes
 }
 
-fn le_4(data: &[u8], off: usize) -> u32
-    requires { off + 4 ≤ length «data».now }
-    ensures { result ≡ unsigned_at little 4 «data».now off }
+// The f32 with this pattern. `f32::from_bits` is undefined at a NaN, so a NaN is made by a
+// division, and which of its patterns that has is open.
+pub fn f32_from_bits(bits: u32) -> f32
+    ensures { result ≡ of_bits binary32 bits }
 {
-    le_2(data, off) as u32 + le_2(data, off + 2) as u32 * 0x1_0000
-}
-
-fn be_4(data: &[u8], off: usize) -> u32
-    requires { off + 4 ≤ length «data».now }
-    ensures { result ≡ unsigned_at big 4 «data».now off }
-{
-    be_2(data, off) as u32 * 0x1_0000 + be_2(data, off + 2) as u32
-}
-
-fn le_8(data: &[u8], off: usize) -> u64
-    requires { off + 8 ≤ length «data».now }
-    ensures { result ≡ unsigned_at little 8 «data».now off }
-{
-    le_4(data, off) as u64 + le_4(data, off + 4) as u64 * 0x1_0000_0000
-}
-
-// The number of two bytes, the least significant first.
-fn join_2(b0: u8, b1: u8) -> u16
-    ensures { result ≡ value (b0 ∷ b1 ∷ []) }
-{
-    b0 as u16 + b1 as u16 * 256
+    if 0x7f80_0000 < bits % 0x8000_0000 {
+        0.0 / 0.0
+    } else {
+        f32::from_bits(bits)
+    }
 }

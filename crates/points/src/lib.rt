@@ -2,12 +2,9 @@
 
 #![tactic(auto)]
 
-// Longer data is refused.
-pub const MAX_DATA_LEN: usize = 2_147_483_647;
-
 mod lay;
 mod point;
 
-pub use answers::{Answer, Refusal};
-pub use lay::{lacks_room, lay_bits, lay_point};
-pub use point::{Point, PointBits};
+pub use answers::{Counts, Refusal};
+pub use lay::{MAX_DATA_LEN, check_len, check_room, lacks_room, lay_point};
+pub use point::Point;

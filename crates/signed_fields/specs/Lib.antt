@@ -1,2 +1,0 @@
--- What a signed number is.
-pub mod Signed
