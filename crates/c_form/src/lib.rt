@@ -6,7 +6,7 @@ ghost use Rattle.std.specs.Prelude.{◌≡◌};
 ghost use Rattle.answers.specs.Answer.{number_of, points_of, frames_of};
 ghost use Rattle.c_form.specs.Reading.{reading_of};
 
-use answers::Answer;
+use answers::{Counts, Refusal};
 use capture::Reading;
 
 pub fn reading_of(savefile: bool) -> Reading
@@ -20,10 +20,12 @@ pub fn reading_of(savefile: bool) -> Reading
 }
 
 // Gives back the number, and tells the points and the frames by reference.
-pub fn tell(answer: Answer, points: &mut usize, frames: &mut usize) -> u8
-    ensures { (result ≡ number_of answer) × (points.new ≡ points_of answer) × (frames.new ≡ frames_of answer) }
+pub fn tell(answer: Result<Counts, Refusal>, points: &mut usize, frames: &mut usize) -> u8
+    ensures number { result ≡ number_of answer }
+    ensures points { points.new ≡ points_of answer }
+    ensures frames { frames.new ≡ frames_of answer }
 {
-    *points = answer.points();
-    *frames = answer.frames();
-    answer.number()
+    *points = answers::points_of(answer);
+    *frames = answers::frames_of(answer);
+    answers::number_of(answer)
 }

@@ -8,7 +8,6 @@ ghost use Rattle.kitti.specs.Kitti.{read_kitti, read_kitti_bits};
 
 use c_form::tell;
 use kitti::read_kitti;
-use kitti_bits::read_kitti_bits;
 
 #[unsafe(no_mangle)]
 pub extern "C" fn lidar_read_kitti(
@@ -33,5 +32,5 @@ pub extern "C" fn lidar_read_kitti_bits(
 ) -> u8
     ensures { outcome result points.new frames.new bits.new kinds.new ≡ read_kitti_bits «data».now bits.old kinds.old }
 {
-    tell(read_kitti_bits(data, bits, kinds), points, frames)
+    tell(read_kitti(data, bits, kinds), points, frames)
 }
