@@ -1,20 +1,12 @@
 -- The walk for C yields the payloads in order. From the place 0 all of them are to come (`all_to_come`). A step that finds a payload takes it off the front of
 -- those to come (`takes_one`), and one that finds none has none to come (`takes_none`). Assumes nothing.
-use Prim.Native.Nat.{ℕ, ◌≤◌}
-use native.Mathlib.Nat.{lt_of_not-le}
-use native.Mathlib.Omega.{arith}
-use native.Mathlib.Decide.{dec_le, ℕ_discrete}
-use mathlib.Core.Path.{◌≡◌, refl, sym, ap}
-use mathlib.Core.Bool.{Bool, true, false, cond}
-use mathlib.Core.List.{List, [], ◌∷◌}
-use lib.Dec.{eqb, ltb}
-use borrow.Author.Tests.{ne_eqb, lt-ltb, le-ltb}
+use Rattle.std.specs.Prelude.{ℕ, ◌≤◌, ◌≡◌, Bool, true, false, cond, List, [], ◌∷◌, eqb, ltb, Option, Some, None}
+use Rattle.std.proofs.Common.{refl, sym, ap, arith, lt_of_not-le, ne_eqb, lt-ltb, le-ltb}
+use Rattle.std.proofs.Math.Decide.{dec_le, ℕ_discrete}
 use Rattle.points.specs.ReadInto.{first_refusal}
 use Rattle.record_rule.specs.declared.reading.Reading.{Reading}
 use Rattle.capture.specs.declared.walk.Cursor.{Cursor}
 use Rattle.capture.specs.declared.walk.Place.{Place}
-use Rattle.capture.specs.declared.walk.Step.{Step}
-use Rattle.capture.specs.declared.walk.Step.TheVariants.{Payload, End}
 use Rattle.savefile.specs.Savefile.{checks}
 use Rattle.capture.specs.Payloads.{places_from, payloads, start_cursor, step_of}
 use Rattle.capture.proofs.Steps.{step_end, step_payload, step_on}
@@ -55,9 +47,9 @@ module _ (reading : Reading) (port : ℕ) (bytes : List ℕ) where
         | no n ↦ rw (ne_eqb (first_refusal (checks reading bytes)) 0 n)
       ]
     where
-      none : (s : Step) → step_of (cursor_at at) bytes ≡ s → tell_step at s ≡ (false, after, told) → places_from (cursor_at at) bytes ≡ []
-      none End q t = step_end (cursor_at at) bytes q
-      none (Payload p next) q t = never (ap (λ (x : Bool × ℕ × PayloadTold). x.0) t)
+      none : (s : Option (Place × Cursor)) → step_of (cursor_at at) bytes ≡ s → tell_step at s ≡ (false, after, told) → places_from (cursor_at at) bytes ≡ []
+      none None q t = step_end (cursor_at at) bytes q
+      none (Some (p, next)) q t = never (ap (λ (x : Bool × ℕ × PayloadTold). x.0) t)
 
   pub takes_one : (at after : ℕ) (told : PayloadTold) → tell_next reading port bytes at ≡ (true, after, told) → (p : Place) × (tell_payload p ≡ told) × (to_come at ≡ p ∷ to_come after)
   unfolding tell_next step_from
@@ -67,10 +59,10 @@ module _ (reading : Reading) (port : ℕ) (bytes : List ℕ) where
         | no n ↦ never (sym (ap (λ (x : Bool × ℕ × PayloadTold). x.0) (rw (ne_eqb (first_refusal (checks reading bytes)) 0 n) at e)))
       ]
     where
-      one : (s : Step) → step_of (cursor_at at) bytes ≡ s → tell_step at s ≡ (true, after, told)
+      one : (s : Option (Place × Cursor)) → step_of (cursor_at at) bytes ≡ s → tell_step at s ≡ (true, after, told)
           → (p : Place) × (tell_payload p ≡ told) × (places_from (cursor_at at) bytes ≡ p ∷ places_from (cursor_at after) bytes)
-      one End q t = never (sym (ap (λ (x : Bool × ℕ × PayloadTold). x.0) t))
-      one (Payload p next) q t =
+      one None q t = never (sym (ap (λ (x : Bool × ℕ × PayloadTold). x.0) t))
+      one (Some (p, next)) q t =
           let on = step_on (cursor_at at) bytes p next q in
           let same : next.at ≡ after = ap (λ (x : Bool × ℕ × PayloadTold). x.1) t in
           let past : 24 ≤ after = omega (arith, after_header at) in

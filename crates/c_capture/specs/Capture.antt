@@ -1,14 +1,23 @@
 -- What the C forms of the capture's calls give back, each as one value.
-use Rattle.std.specs.Prelude.{ℕ, Bool, true, false, cond, List, ltb, eqb}
+use Rattle.std.specs.Prelude.{ℕ, Bool, true, false, cond, List, ltb, eqb, Option, Some, None}
 use Rattle.points.specs.ReadInto.{first_refusal}
 use Rattle.record_rule.specs.declared.reading.Reading.{Reading}
-use Rattle.record_rule.specs.Time.{time_numbers}
+use Rattle.record_rule.specs.declared.time.TimeUnit.{TimeUnit}
+use Rattle.record_rule.specs.declared.time.TimeUnit.TheVariants.{Microseconds, Nanoseconds}
+use Rattle.record_rule.specs.declared.time.Timestamp.{Timestamp}
 use Rattle.capture.specs.declared.walk.Cursor.{Cursor}
 use Rattle.capture.specs.declared.walk.Place.{Place}
-use Rattle.capture.specs.declared.walk.Step.{Step}
-use Rattle.capture.specs.declared.walk.Step.TheVariants.{Payload, End}
 use Rattle.savefile.specs.Savefile.{checks}
 use Rattle.capture.specs.Payloads.{nowhere, place_of, start_cursor, moved_to, step_of}
+
+-- A unit as a number.
+abbrev pub unit_number : TimeUnit → ℕ
+unit_number Microseconds = 0
+unit_number Nanoseconds = 1
+
+-- A time as three numbers: seconds, fraction, unit.
+abbrev pub time_numbers : Timestamp → ℕ × ℕ × ℕ
+time_numbers t = (t.seconds, t.fraction, unit_number t.unit)
 
 -- What is told of a payload: its start, its length, and the numbers of its time.
 pub data PayloadTold : Type 0 where
@@ -27,14 +36,14 @@ abbrev pub moved_on : Cursor → ℕ → Cursor
 moved_on cursor at = moved_to cursor (cond (ltb at cursor.at) cursor.at at)
 
 -- The step from a place of the walk on. A capture that is refused has none.
-unfoldable pub step_from : Reading → ℕ → List ℕ → ℕ → Step
+unfoldable pub step_from : Reading → ℕ → List ℕ → ℕ → Option (Place × Cursor)
 step_from reading port bytes at =
-    cond (eqb (first_refusal (checks reading bytes)) 0) (step_of (moved_on (start_cursor reading port bytes) at) bytes) End
+    cond (eqb (first_refusal (checks reading bytes)) 0) (step_of (moved_on (start_cursor reading port bytes) at) bytes) None
 
 -- Whether there is a next payload, where the walk then stands, and the payload. Without one the walk stays where it is.
-abbrev pub tell_step : ℕ → Step → Bool × ℕ × PayloadTold
-tell_step at End = (false, at, tell_payload nowhere)
-tell_step at (Payload place next) = (true, next.at, tell_payload place)
+abbrev pub tell_step : ℕ → Option (Place × Cursor) → Bool × ℕ × PayloadTold
+tell_step at None = (false, at, tell_payload nowhere)
+tell_step at (Some (place, next)) = (true, next.at, tell_payload place)
 
 unfoldable pub tell_next : Reading → ℕ → List ℕ → ℕ → Bool × ℕ × PayloadTold
 unfolding step_from

@@ -2,15 +2,16 @@
 
 #![tactic(auto)]
 
-ghost use Rattle.std.specs.Prelude.{◌≡◌};
+ghost use Rattle.std.specs.Prelude.{◌≡◌, unwrap_or};
 ghost use Rattle.points.specs.ReadInto.{first_refusal};
 ghost use Rattle.record_rule.specs.Reading.{usual};
 ghost use Rattle.savefile.specs.Savefile.{checks};
 ghost use Rattle.c_form.specs.Reading.{reading_of};
-ghost use Rattle.c_capture.specs.Capture.{payload_told, tell_payload, tell_place, moved_on, step_from, tell_step, tell_next};
+ghost use Rattle.capture.specs.Payloads.{nowhere};
+ghost use Rattle.c_capture.specs.Capture.{unit_number, time_numbers, payload_told, tell_payload, tell_place, moved_on, step_from, tell_step, tell_next};
 
 use c_form::reading_of;
-use capture::{Cursor, Opened, Place, Reading, Step};
+use capture::{Cursor, Place, Reading, TimeUnit, Timestamp};
 
 #[unsafe(no_mangle)]
 pub extern "C" fn lidar_payload_place_as(
@@ -90,17 +91,17 @@ fn number_of(data: &[u8], reading: Reading) -> u8
     ensures { result ≡ first_refusal (checks reading «data».now) }
 {
     match capture::open_as(data, reading, 0) {
-        Opened::Walk(_) => 0,
-        Opened::Refused(refusal) => refusal.number(),
+        Ok(_) => 0,
+        Err(refusal) => refusal.number(),
     }
 }
 
 // The step from a place of the walk on. A capture that is refused has none.
-fn step_from(data: &[u8], reading: Reading, port: u16, at: usize) -> Step
+fn step_from(data: &[u8], reading: Reading, port: u16, at: usize) -> Option<(Place, Cursor)>
     ensures { result ≡ step_from reading port «data».now at }
 {
-    let Opened::Walk(cursor) = capture::open_as(data, reading, port) else {
-        return Step::End;
+    let Ok(cursor) = capture::open_as(data, reading, port) else {
+        return None;
     };
     moved_on(cursor, at).step(data)
 }
@@ -117,7 +118,7 @@ fn moved_on(cursor: Cursor, at: usize) -> Cursor
 }
 
 fn tell_step(
-    step: Step,
+    step: Option<(Place, Cursor)>,
     at: &mut usize,
     start: &mut usize,
     len: &mut usize,
@@ -128,30 +129,56 @@ fn tell_step(
     ensures { (result, at.new, payload_told start.new len.new (seconds.new, fraction.new, unit.new)) ≡ tell_step at.old step }
 {
     match step {
-        Step::Payload(place, next) => {
+        Some((place, next)) => {
             *at = next.at;
-            tell_payload(place, start, len, seconds, fraction, unit);
+            tell_payload(Some(place), start, len, seconds, fraction, unit);
             true
         }
-        Step::End => {
-            tell_payload(Place::nowhere(), start, len, seconds, fraction, unit);
+        None => {
+            tell_payload(None, start, len, seconds, fraction, unit);
             false
         }
     }
 }
 
+// Where there is no payload, all that is told is 0.
 fn tell_payload(
-    place: Place,
+    place: Option<Place>,
     start: &mut usize,
     len: &mut usize,
     seconds: &mut u32,
     fraction: &mut u32,
     unit: &mut u8,
 )
-    ensures { payload_told start.new len.new (seconds.new, fraction.new, unit.new) ≡ tell_payload place }
+    ensures { payload_told start.new len.new (seconds.new, fraction.new, unit.new) ≡ tell_payload (unwrap_or place nowhere) }
 {
-    let time = place.time;
-    *start = place.start;
-    *len = place.len;
-    time.tell(seconds, fraction, unit);
+    match place {
+        Some(place) => {
+            *start = place.start;
+            *len = place.len;
+            tell_time(place.time, seconds, fraction, unit);
+        }
+        None => {
+            *start = 0;
+            *len = 0;
+            tell_time(Timestamp::default(), seconds, fraction, unit);
+        }
+    }
+}
+
+fn tell_time(time: Timestamp, seconds: &mut u32, fraction: &mut u32, unit: &mut u8)
+    ensures { (seconds.new, fraction.new, unit.new) ≡ time_numbers time }
+{
+    *seconds = time.seconds;
+    *fraction = time.fraction;
+    *unit = unit_number(time.unit);
+}
+
+fn unit_number(unit: TimeUnit) -> u8
+    ensures { result ≡ unit_number unit }
+{
+    match unit {
+        TimeUnit::Microseconds => 0,
+        TimeUnit::Nanoseconds => 1,
+    }
 }

@@ -1,6 +1,6 @@
 -- How C names the Ouster settings.
 use Rattle.std.specs.Prelude.{ℕ}
-use Rattle.ouster_settings.specs.declared.OusterSettings.{OusterSettings}
+use Rattle.ouster_settings.specs.declared.settings.OusterSettings.{OusterSettings}
 
 -- The fields of the settings, one by one.
 abbrev pub settings_of : ℕ → ℕ → ℕ → OusterSettings

@@ -1,32 +1,25 @@
 -- Laws that a promise rests on: each payload lies inside the data and is not empty (`all_within`), so the part that is handed back is empty exactly if the
 -- capture is refused or has no payload of that rank (`empty_if`, `empty_only_if`). They hold for any records that lie inside the data, wherever these come from,
 -- for any number that the checks give, any reading and any port. Then the same of a savefile's records, and of a step. Assumes nothing.
-use Prim.Native.Nat.{ℕ, zero, suc, ◌+◌, ◌-◌, ◌≤◌, ◌<◌, zero-le}
-use native.Mathlib.Nat.{lt_of_not-le}
-use native.Mathlib.Decide.{dec_le, ℕ_discrete}
-use native.Mathlib.Omega.{arith}
-use mathlib.Core.Path.{◌≡◌, refl, ap, subst}
-use mathlib.Core.Logic.{◌⊎◌, inl, inr}
-use mathlib.Core.Bool.{Bool, true, false, cond}
-use mathlib.Core.List.{List, [], ◌∷◌, ◌++◌, flat_map}
-use lib.Dec.{eqb}
-use lib.ListN.{length, take, drop, get_or, length-take, length-drop, get_or-eq_default}
-use borrow.Author.Tests.{ne_eqb}
+use Rattle.std.specs.Prelude.{ℕ, zero, suc, ◌+◌, ◌-◌, ◌≤◌, ◌<◌, ◌≡◌, ◌⊎◌, Bool, true, false, cond, List, [], ◌∷◌, ◌++◌, eqb, length, take, drop, get_or, slice_get, unwrap_or, Some, None, Ok, Err}
+use Rattle.std.proofs.Common.{refl, ap, subst, inl, inr, arith, zero-le, lt_of_not-le, length-take, length-drop, ne_eqb}
+use Rattle.std.proofs.Math.Decide.{dec_le, ℕ_discrete}
+use Rattle.std.proofs.lemmas.Option.{unwrap_or-slice_get}
+use lib.ListN.{get_or-eq_default}
+use mathlib.Core.List.{flat_map}
 use Rattle.points.specs.ReadInto.{first_refusal}
 use Rattle.record_rule.specs.declared.Record.{Record}
 use Rattle.record_rule.specs.declared.reading.Reading.{Reading}
-use Rattle.record_rule.specs.declared.rule.Start.{Start}
-use Rattle.record_rule.specs.declared.rule.Start.TheVariants.{At, Nothing}
+use Rattle.record_rule.specs.declared.rule.Part.{Part}
 use Rattle.record_rule.specs.Captured.{record_bytes}
-use Rattle.record_rule.specs.Record.{verdict, start_of}
+use Rattle.record_rule.specs.Record.{Verdict, verdict}
 use Rattle.record_rule.proofs.Inside.{Inside, AllInside, Among, inside_of, inside_length}
 use Rattle.record_rule.proofs.Tests.{payload_inside}
 use Rattle.savefile.specs.Savefile.{all_records_from, format_of, checks}
 use Rattle.savefile.proofs.Records.{records_inside}
 use Rattle.capture.specs.declared.walk.Cursor.{Cursor}
 use Rattle.capture.specs.declared.walk.Place.{Place}
-use Rattle.capture.specs.declared.walk.Step.TheVariants.{Payload}
-use Rattle.capture.specs.Payloads.{place_in, Yield, yield_at, yield_of, yields_in, yields_from, places_of, payloads, nowhere, handed_as, place_of, bytes_at, yields_after, step_to, step_of}
+use Rattle.capture.specs.Payloads.{place_in, Yield, yield_at, yield_of, yields_in, yields_from, places_of, payloads, nowhere, handed_as, place_of, place_at, place_of_rank, bytes_at, yields_after, moved_to, step_to, step_of}
 
 pub record Within (bytes : List ℕ) (p : Place) : Type 0 where
   pub inside : p.start + p.len ≤ length bytes
@@ -43,27 +36,27 @@ at_rank P (p ∷ places) zero a h = a.0
 at_rank P (p ∷ places) (suc rank) a h = at_rank P places rank a.1 (omega arith)
 
 -- ---- of any records inside the data
-with_one : (P : Place → Type 0) (r : Record) (s : Start) (later : List Yield) → ((start len : ℕ) → s ≡ At start len → P (place_in r start len)) → AllOf P (places_of later)
-    → AllOf P (places_of (yield_at r s ++ later))
-with_one P r Nothing later k a = a
-with_one P r (At start len) later k a = (k start len refl, a)
+with_one : (P : Place → Type 0) (r : Record) (v : Verdict) (later : List Yield) → ((part : Part) → v ≡ Ok part → P (place_in r part)) → AllOf P (places_of later)
+    → AllOf P (places_of (yield_at r v ++ later))
+with_one P r (Err why) later k a = a
+with_one P r (Ok part) later k a = (k part refl, a)
 
 module _ (reading : Reading) (port : ℕ) (bytes : List ℕ) where
   -- A property that each payload has by the record that yields it.
   pub all_of : (P : Place → Type 0) (records : List Record)
-      → ((r : Record) → Among r records → (start len : ℕ) → start_of (verdict reading port (record_bytes bytes r)) ≡ At start len → P (place_in r start len))
+      → ((r : Record) → Among r records → (part : Part) → verdict reading port (record_bytes bytes r) ≡ Ok part → P (place_in r part))
       → AllOf P (places_of (yields_in reading port bytes records))
   unfolding flat_map yield_of
   all_of P [] k = tt
   all_of P (r ∷ records) k =
-      with_one P r (start_of (verdict reading port (record_bytes bytes r))) (yields_in reading port bytes records) (k r (inl refl)) (all_of P records (λ x m. k x (inr m)))
+      with_one P r (verdict reading port (record_bytes bytes r)) (yields_in reading port bytes records) (k r (inl refl)) (all_of P records (λ x m. k x (inr m)))
 
   -- What a record yields lies in its captured bytes.
-  pub yielded_inside : (r : Record) (start len : ℕ) → Inside bytes r → start_of (verdict reading port (record_bytes bytes r)) ≡ At start len → (start + len ≤ r.len) × (0 < len)
-  yielded_inside r start len i e = rw (inside_length bytes r i) at (payload_inside reading port (record_bytes bytes r) start len e)
+  pub yielded_inside : (r : Record) (part : Part) → Inside bytes r → verdict reading port (record_bytes bytes r) ≡ Ok part → (part.start + part.len ≤ r.len) × (0 < part.len)
+  yielded_inside r part i e = rw (inside_length bytes r i) at (payload_inside reading port (record_bytes bytes r) part e)
 
   pub all_within : (records : List Record) → AllInside bytes records → AllOf (Within bytes) (places_of (yields_in reading port bytes records))
-  all_within records i = all_of (Within bytes) records (λ r m start len e. let h = inside_of bytes records r i m in let k = yielded_inside r start len h e in record { inside = omega arith; some = k.1 })
+  all_within records i = all_of (Within bytes) records (λ r m part e. let h = inside_of bytes records r i m in let k = yielded_inside r part h e in record { inside = omega arith; some = k.1 })
 
 -- The number is what the checks give: 0 accepts, and any other refuses.
 module _ (number : ℕ) (places : List Place) (rank : ℕ) where
@@ -80,6 +73,14 @@ module _ (number : ℕ) (places : List Place) (rank : ℕ) where
     where
       either : (b : Bool) → cond b nowhere nowhere ≡ nowhere
       either true = refl
+      either false = refl
+
+  -- Code's answer, where none is told as `nowhere`.
+  pub handed : unwrap_or (place_at number places rank) nowhere ≡ handed_as number places rank
+  handed = either (eqb number 0)
+    where
+      either : (b : Bool) → unwrap_or (cond b (slice_get places rank) None) nowhere ≡ cond b (get_or places rank nowhere) nowhere
+      either true = unwrap_or-slice_get places rank nowhere
       either false = refl
 
   pub none_or_one : (P : Place → Type 0) → AllOf P places → NoneOfRank ⊎ P (handed_as number places rank)
@@ -140,16 +141,23 @@ module _ (reading : Reading) (port rank : ℕ) (bytes : List ℕ) where
   unfolding place_of payloads yields_from
   part_empty_only_if = empty_only_if reading port number rank bytes records lie_inside
 
+-- The place of a rank, where none is told as `nowhere`.
+pub handed_of_rank : (reading : Reading) (port rank : ℕ) (bytes : List ℕ) → unwrap_or (place_of_rank reading port rank bytes) nowhere ≡ place_of reading port rank bytes
+unfolding place_of place_of_rank
+handed_of_rank reading port rank bytes = handed (first_refusal (checks reading bytes)) (payloads reading port bytes) rank
+
 -- ---- of a step
-pub of_step : (P : Place → Type 0) (c : Cursor) (bytes : List ℕ) (p : Place) (next : Cursor) → AllOf P (places_of (yields_after c bytes)) → step_of c bytes ≡ Payload p next → P p
+pub of_step : (P : Place → Type 0) (c : Cursor) (bytes : List ℕ) (p : Place) (next : Cursor) → AllOf P (places_of (yields_after c bytes)) → step_of c bytes ≡ Some (p, next) → P p
 unfolding step_of
 of_step P c bytes p next all e = go (yields_after c bytes) all e
   where
-    go : (l : List Yield) → AllOf P (places_of l) → step_to c l ≡ Payload p next → P p
+    go : (l : List Yield) → AllOf P (places_of l) → step_to c l ≡ Some (p, next) → P p
     go [] a q = let never : ◌≡◌ {A = ℕ} 0 1 = cc in absurd (omega arith)
-    go (y ∷ l) a q = let is : y.place ≡ p = cc in subst P is a.0
+    go (y ∷ l) a q =
+        let both : ◌≡◌ {A = Place × Cursor} (y.place, moved_to c y.next) (p, next) = cc q in
+        subst P (ap (λ (x : Place × Cursor). x.0) both) a.0
 
-pub step_within : (c : Cursor) (bytes : List ℕ) (p : Place) (next : Cursor) → step_of c bytes ≡ Payload p next → Within bytes p
+pub step_within : (c : Cursor) (bytes : List ℕ) (p : Place) (next : Cursor) → step_of c bytes ≡ Some (p, next) → Within bytes p
 unfolding yields_from
 step_within c bytes p next = of_step (Within bytes) c bytes p next (all_within c.reading c.port bytes (all_records_from c.format bytes c.at) (records_inside c.format bytes (length bytes) c.at))
 

@@ -1,15 +1,12 @@
 -- From a place on the walk ends, or has what the record there yields and goes on after it. Assumes nothing.
-use Prim.Native.Nat.{ℕ, ◌+◌, ◌-◌, ◌≤◌, ◌<◌}
-use native.Mathlib.Omega.{arith}
-use mathlib.Core.Path.{◌≡◌, ap, ◌∙◌, subst}
-use mathlib.Core.List.{List, [], ◌∷◌, ◌++◌, flat_map}
-use lib.ListN.{length, take, drop}
+use Rattle.std.specs.Prelude.{ℕ, ◌+◌, ◌-◌, ◌≤◌, ◌<◌, ◌≡◌, List, [], ◌∷◌, ◌++◌, length, take, drop, Ok}
+use Rattle.std.proofs.Common.{ap, ◌∙◌, subst, arith}
+use mathlib.Core.List.{flat_map}
 use Rattle.record_rule.specs.declared.Record.{Record}
 use Rattle.record_rule.specs.declared.reading.Reading.{Reading}
-use Rattle.record_rule.specs.declared.rule.Start.{Start}
-use Rattle.record_rule.specs.declared.rule.Start.TheVariants.{At}
+use Rattle.record_rule.specs.declared.rule.Part.{Part}
 use Rattle.record_rule.specs.Captured.{record_bytes, record_end}
-use Rattle.record_rule.specs.Record.{verdict, start_of}
+use Rattle.record_rule.specs.Record.{Verdict, verdict}
 use Rattle.record_rule.proofs.Inside.{Inside, inside_length}
 use Rattle.record_rule.proofs.Tests.{payload_inside}
 use Rattle.savefile.specs.declared.RecordFormat.{RecordFormat}
@@ -34,14 +31,14 @@ module _ (reading : Reading) (format : RecordFormat) (port : ℕ) (bytes : List 
     lent_is = let long : record_end r - r.body ≡ r.len = omega arith in rw long
 
     -- what the rule says of it decides what it yields
-    pub at_record : (s : Start) → start_of (verdict reading port lent) ≡ s → yields_from reading format port bytes at ≡ yield_at r s ++ yields_from reading format port bytes (record_end r)
+    pub at_record : (v : Verdict) → verdict reading port lent ≡ v → yields_from reading format port bytes at ≡ yield_at r v ++ yields_from reading format port bytes (record_end r)
     unfolding yields_from yield_of flat_map
-    at_record s rule =
+    at_record v rule =
         let all : all_records_from format bytes at ≡ r ∷ all_records_from format bytes (record_end r) = rw e (onward format bytes (length bytes) at (omega arith) (subst (Inside bytes) e h)) in
         rw (all, ← rule, lent_is)
 
-    pub in_record : (start len : ℕ) → start_of (verdict reading port lent) ≡ At start len → (start + len ≤ r.len) × (0 < len)
-    in_record start len rule =
-        let within = payload_inside reading port lent start len rule in
+    pub in_record : (part : Part) → verdict reading port lent ≡ Ok part → (part.start + part.len ≤ r.len) × (0 < part.len)
+    in_record part rule =
+        let within = payload_inside reading port lent part rule in
         let long = ap length lent_is ∙ inside_length bytes r h in
         (omega arith, within.1)

@@ -1,24 +1,18 @@
 -- The walk by steps. After the record of a payload the walk has exactly the later payloads, and is further on (`after`), so going from cursor to cursor yields
 -- the payloads in order (`step_end`, `step_payload`). Assumes nothing.
-use Prim.Native.Nat.{ℕ, zero, suc, ◌+◌, ◌≤◌, ◌<◌}
-use native.Mathlib.Nat.{lt_of_not-le}
-use native.Mathlib.Decide.{dec_le}
-use native.Mathlib.Omega.{arith}
-use mathlib.Core.Path.{◌≡◌, refl, sym, ap, ◌∙◌}
-use mathlib.Core.List.{List, [], ◌∷◌, ◌++◌, flat_map}
-use lib.ListN.{length}
+use Rattle.std.specs.Prelude.{ℕ, zero, suc, ◌+◌, ◌≤◌, ◌<◌, ◌≡◌, List, [], ◌∷◌, ◌++◌, length, Some, None, Ok, Err}
+use Rattle.std.proofs.Common.{refl, sym, ap, ◌∙◌, arith, lt_of_not-le}
+use Rattle.std.proofs.Math.Decide.{dec_le}
+use mathlib.Core.List.{flat_map}
 use Rattle.record_rule.specs.declared.Record.{Record}
 use Rattle.record_rule.specs.declared.reading.Reading.{Reading}
-use Rattle.record_rule.specs.declared.rule.Start.{Start}
-use Rattle.record_rule.specs.declared.rule.Start.TheVariants.{At, Nothing}
 use Rattle.record_rule.specs.Captured.{record_bytes, record_end}
-use Rattle.record_rule.specs.Record.{verdict, start_of}
+use Rattle.record_rule.specs.Record.{Verdict, verdict}
 use Rattle.savefile.specs.declared.RecordFormat.{RecordFormat}
 use Rattle.savefile.specs.Savefile.{record_at, records_from}
 use Rattle.savefile.proofs.Records.{past, one_more, enough}
 use Rattle.capture.specs.declared.walk.Cursor.{Cursor}
 use Rattle.capture.specs.declared.walk.Place.{Place}
-use Rattle.capture.specs.declared.walk.Step.TheVariants.{Payload, End}
 use Rattle.capture.specs.Payloads.{Yield, yield_at, yield_of, yields_in, yields_from, places_of, moved_to, yields_after, places_from, step_to, step_of}
 
 module _ (reading : Reading) (format : RecordFormat) (port : ℕ) (bytes : List ℕ) where
@@ -33,10 +27,10 @@ module _ (reading : Reading) (format : RecordFormat) (port : ℕ) (bytes : List 
   unfolding yields_from
   all_of_them b at h = rw (enough format bytes b (length bytes) at h (omega arith))
 
-  first : (at : ℕ) (r : Record) (s : Start) (rest later : List Yield) (y : Yield) → at < record_end r → yield_at r s ++ rest ≡ y ∷ later → (rest ≡ y ∷ later → After (record_end r) y later)
+  first : (at : ℕ) (r : Record) (v : Verdict) (rest later : List Yield) (y : Yield) → at < record_end r → yield_at r v ++ rest ≡ y ∷ later → (rest ≡ y ∷ later → After (record_end r) y later)
       → rest ≡ yields_from reading format port bytes (record_end r) → After at y later
-  first at r Nothing rest later y h e go here = let on = go e in (omega arith, on.1)
-  first at r (At start len) rest later y h e go here =
+  first at r (Err why) rest later y h e go here = let on = go e in (omega arith, on.1)
+  first at r (Ok part) rest later y h e go here =
       let next : record_end r ≡ y.next = cc in
       let same : rest ≡ later = cc in
       (omega arith, sym same ∙ here ∙ ap (yields_from reading format port bytes) next)
@@ -48,7 +42,7 @@ module _ (reading : Reading) (format : RecordFormat) (port : ℕ) (bytes : List 
       let r = record_at format bytes at in
       elim (dec_le (record_end r) (length bytes)) [
         | yes k ↦
-            first at r (start_of (verdict reading port (record_bytes bytes r))) (yields b (record_end r)) later y (omega arith) (rw (one_more format bytes b at k) at e)
+            first at r (verdict reading port (record_bytes bytes r)) (yields b (record_end r)) later y (omega arith) (rw (one_more format bytes b at k) at e)
             (λ q. after_first b (record_end r) y later (omega arith) q) (all_of_them b (record_end r) (omega arith))
         | no k ↦ let none = rw (past format bytes (suc b) at (lt_of_not-le k)) at e in let never : ◌≡◌ {A = ℕ} 0 1 = cc in absurd (omega arith)
       ]
@@ -59,11 +53,11 @@ module _ (reading : Reading) (format : RecordFormat) (port : ℕ) (bytes : List 
 
 -- ---- from cursor to cursor
 module _ (c : Cursor) (bytes : List ℕ) where
-  pub step_end : step_of c bytes ≡ End → places_from c bytes ≡ []
+  pub step_end : step_of c bytes ≡ None → places_from c bytes ≡ []
   unfolding step_of places_from
   step_end e = go (yields_after c bytes) e
     where
-      go : (l : List Yield) → step_to c l ≡ End → places_of l ≡ []
+      go : (l : List Yield) → step_to c l ≡ None → places_of l ≡ []
       go [] q = refl
       go (y ∷ l) q = let never : ◌≡◌ {A = ℕ} 0 1 = cc in absurd (omega arith)
 
@@ -71,21 +65,22 @@ module _ (c : Cursor) (bytes : List ℕ) where
   abbrev Stepped : List Yield → Place → Cursor → Type 0
   Stepped l p next = (places_of l ≡ p ∷ places_of (yields_after next bytes)) × (c.at < next.at) × (next ≡ moved_to c next.at)
 
-  stepped : (p : Place) (next : Cursor) → step_of c bytes ≡ Payload p next → Stepped (yields_after c bytes) p next
+  stepped : (p : Place) (next : Cursor) → step_of c bytes ≡ Some (p, next) → Stepped (yields_after c bytes) p next
   unfolding step_of
   stepped p next e = go (yields_after c bytes) refl e
     where
-      go : (l : List Yield) → yields_after c bytes ≡ l → step_to c l ≡ Payload p next → Stepped l p next
+      go : (l : List Yield) → yields_after c bytes ≡ l → step_to c l ≡ Some (p, next) → Stepped l p next
       go [] q s = let never : ◌≡◌ {A = ℕ} 0 1 = cc in absurd (omega arith)
       go (y ∷ l) q s =
           let rest = after c.reading c.format c.port bytes c.at y l q in
-          let is : moved_to c y.next ≡ next = cc in
-          let head : y.place ≡ p = cc in
+          let both : ◌≡◌ {A = Place × Cursor} (y.place, moved_to c y.next) (p, next) = cc s in
+          let is : moved_to c y.next ≡ next = ap (λ (x : Place × Cursor). x.1) both in
+          let head : y.place ≡ p = ap (λ (x : Place × Cursor). x.0) both in
           rw (head, ← is) (rw rest.1 refl, rest.0, refl)
 
-  pub step_payload : (p : Place) (next : Cursor) → step_of c bytes ≡ Payload p next → places_from c bytes ≡ p ∷ places_from next bytes
+  pub step_payload : (p : Place) (next : Cursor) → step_of c bytes ≡ Some (p, next) → places_from c bytes ≡ p ∷ places_from next bytes
   unfolding places_from
   step_payload p next e = (stepped p next e).0
 
-  pub step_on : (p : Place) (next : Cursor) → step_of c bytes ≡ Payload p next → (c.at < next.at) × (next ≡ moved_to c next.at)
+  pub step_on : (p : Place) (next : Cursor) → step_of c bytes ≡ Some (p, next) → (c.at < next.at) × (next ≡ moved_to c next.at)
   step_on p next e = ((stepped p next e).1, (stepped p next e).2)

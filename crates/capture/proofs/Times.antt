@@ -1,12 +1,8 @@
 -- A law that a promise rests on: the time that is told with a payload is the one that the header of its record states, for any reading and any port (`told`), by
 -- rank and by step. Each record of the walk is the one that its own header states (`stated`), and a place takes header and time from its record. Without a payload
 -- the time is 0, in microseconds. Assumes nothing.
-use Prim.Native.Nat.{ℕ, ◌+◌, ◌≤◌}
-use native.Mathlib.Omega.{arith}
-use mathlib.Core.Path.{◌≡◌, refl, sym, ap, subst}
-use mathlib.Core.Logic.{◌⊎◌, inl, inr}
-use mathlib.Core.List.{List}
-use lib.ListN.{length}
+use Rattle.std.specs.Prelude.{ℕ, ◌+◌, ◌≤◌, ◌≡◌, ◌⊎◌, List, length, Some}
+use Rattle.std.proofs.Common.{refl, sym, ap, subst, inl, inr, arith}
 use Rattle.points.specs.ReadInto.{first_refusal}
 use Rattle.record_rule.specs.declared.Record.{Record}
 use Rattle.record_rule.specs.declared.reading.Reading.{Reading}
@@ -18,7 +14,6 @@ use Rattle.savefile.specs.Savefile.{time_at, record_at, all_records_from, format
 use Rattle.savefile.proofs.Records.{records_inside, stated}
 use Rattle.capture.specs.declared.walk.Cursor.{Cursor}
 use Rattle.capture.specs.declared.walk.Place.{Place}
-use Rattle.capture.specs.declared.walk.Step.TheVariants.{Payload}
 use Rattle.capture.specs.Payloads.{place_in, yields_in, yields_from, places_of, payloads, place_of, step_of}
 use Rattle.capture.proofs.Handed.{AllOf, NoneOfRank, all_of, yielded_inside, none_handed, none_or_one, of_step}
 
@@ -33,12 +28,12 @@ module _ (reading : Reading) (port : ℕ) (format : RecordFormat) (bytes : List 
   all_in_records : AllOf (InRecord format bytes at) (places_of (yields_in reading port bytes (all_records_from format bytes at)))
   all_in_records =
       all_of reading port bytes (InRecord format bytes at) (all_records_from format bytes at)
-      (λ r m start len e.
+      (λ r m part e.
       let is = stated format bytes (length bytes) at r m in
       let inside = inside_of bytes (all_records_from format bytes at) r (records_inside format bytes (length bytes) at) m in
-      let k = yielded_inside reading port bytes r start len inside e in
+      let k = yielded_inside reading port bytes r part inside e in
       let long = ap (λ (x : Record). x.len) is in
-      subst (λ x. InRecord format bytes at (place_in x start len)) (sym is) (record { one = subst (λ x. Among x (all_records_from format bytes at)) is m; after = omega arith; inside = omega arith; time = refl }))
+      subst (λ x. InRecord format bytes at (place_in x part)) (sym is) (record { one = subst (λ x. Among x (all_records_from format bytes at)) is m; after = omega arith; inside = omega arith; time = refl }))
 
 -- There is no payload of that rank, and no time is told; or there is, and it stands in its record.
 pub told : (reading : Reading) (port rank : ℕ) (bytes : List ℕ) → let p = place_of reading port rank bytes in
@@ -54,6 +49,6 @@ told reading port rank bytes =
     ]
 
 -- So does the payload of a step.
-pub told_by_step : (c : Cursor) (bytes : List ℕ) (p : Place) (next : Cursor) → step_of c bytes ≡ Payload p next → InRecord c.format bytes c.at p
+pub told_by_step : (c : Cursor) (bytes : List ℕ) (p : Place) (next : Cursor) → step_of c bytes ≡ Some (p, next) → InRecord c.format bytes c.at p
 unfolding yields_from
 told_by_step c bytes p next = of_step (InRecord c.format bytes c.at) c bytes p next (all_in_records c.reading c.port c.format bytes c.at)

@@ -1,27 +1,23 @@
 -- The payloads of a capture, in order, each with its place and its time.
-use Rattle.std.specs.Prelude.{ℕ, ◌+◌, ◌≡◌, cond, eqb, take, drop, get_or}
-use mathlib.Core.List.{List, [], ◌∷◌, flat_map, map}
+use Rattle.std.specs.Prelude.{ℕ, ◌+◌, ◌≡◌, cond, eqb, take, drop, get_or, slice_get, List, [], ◌∷◌, map, Option, Some, None, Result, Ok, Err}
+use mathlib.Core.List.{flat_map}
+use Rattle.answers.specs.declared.Refusal.{Refusal}
 use Rattle.answers.specs.Answer.{refusal_number}
 use Rattle.points.specs.ReadInto.{first_refusal}
 use Rattle.record_rule.specs.declared.Record.{Record}
 use Rattle.record_rule.specs.declared.reading.Reading.{Reading}
-use Rattle.record_rule.specs.declared.rule.Start.{Start}
-use Rattle.record_rule.specs.declared.rule.Start.TheVariants.{At, Nothing}
+use Rattle.record_rule.specs.declared.rule.Part.{Part}
 use Rattle.capture.specs.declared.walk.Cursor.{Cursor}
-use Rattle.capture.specs.declared.walk.Opened.{Opened}
-use Rattle.capture.specs.declared.walk.Opened.TheVariants as Openings
 use Rattle.capture.specs.declared.walk.Place.{Place}
-use Rattle.capture.specs.declared.walk.Step.{Step}
-use Rattle.capture.specs.declared.walk.Step.TheVariants as Steps
 use Rattle.record_rule.specs.Captured.{record_bytes, record_end}
-use Rattle.record_rule.specs.Record.{verdict, start_of}
+use Rattle.record_rule.specs.Record.{Verdict, verdict}
 use Rattle.record_rule.specs.Time.{no_time}
 use Rattle.savefile.specs.declared.RecordFormat.{RecordFormat}
 use Rattle.savefile.specs.Savefile.{records_from, all_records_from, format_of, checks}
 
--- The place of a payload, by where it starts in its record and how long it is. Its time is the record's.
-abbrev pub place_in : Record → ℕ → ℕ → Place
-place_in r start len = record { header = r.header; start = r.body + start; len = len; time = r.time }
+-- The place of a payload, by the part of its record that it is. Its time is the record's.
+abbrev pub place_in : Record → Part → Place
+place_in r part = record { header = r.header; start = r.body + part.start; len = part.len; time = r.time }
 
 -- What a record yields: a payload, and where the walk goes on after the record.
 pub record Yield : Type 0 where
@@ -29,12 +25,12 @@ pub record Yield : Type 0 where
   pub next : ℕ
 
 -- A record that is passed over yields none.
-abbrev pub yield_at : Record → Start → List Yield
-yield_at r Nothing = []
-yield_at r (At start len) = record { place = place_in r start len; next = record_end r } ∷ []
+abbrev pub yield_at : Record → Verdict → List Yield
+yield_at r (Err why) = []
+yield_at r (Ok part) = record { place = place_in r part; next = record_end r } ∷ []
 
 unfoldable pub yield_of : Reading → ℕ → List ℕ → Record → List Yield
-yield_of reading port bytes r = yield_at r (start_of (verdict reading port (record_bytes bytes r)))
+yield_of reading port bytes r = yield_at r (verdict reading port (record_bytes bytes r))
 
 -- What some records yield, in order, and the places of the payloads.
 abbrev pub yields_in : Reading → ℕ → List ℕ → List Record → List Yield
@@ -67,6 +63,14 @@ handed_as number places rank = cond (eqb number 0) (get_or places rank nowhere) 
 unfoldable pub place_of : Reading → ℕ → ℕ → List ℕ → Place
 unfolding payloads
 place_of reading port rank bytes = handed_as (first_refusal (checks reading bytes)) (payloads reading port bytes) rank
+
+-- The same place where there is one: none exactly if `place_of` is `nowhere`, since a payload never starts at 0.
+abbrev pub place_at : ℕ → List Place → ℕ → Option Place
+place_at number places rank = cond (eqb number 0) (slice_get places rank) None
+
+unfoldable pub place_of_rank : Reading → ℕ → ℕ → List ℕ → Option Place
+unfolding payloads
+place_of_rank reading port rank bytes = place_at (first_refusal (checks reading bytes)) (payloads reading port bytes) rank
 
 -- The bytes at a place.
 abbrev pub bytes_at : List ℕ → Place → List ℕ
@@ -103,15 +107,15 @@ opening reading port bytes =
     (n, cond (eqb n 0) (start_cursor reading port bytes ∷ []) [])
 
 -- What code's answer to opening stands for.
-abbrev pub of_opened : Opened → ℕ × List Cursor
-of_opened (Openings.Walk cursor) = (0, cursor ∷ [])
-of_opened (Openings.Refused refusal) = (refusal_number refusal, [])
+abbrev pub of_opened : Result Cursor Refusal → ℕ × List Cursor
+of_opened (Ok cursor) = (0, cursor ∷ [])
+of_opened (Err refusal) = (refusal_number refusal, [])
 
--- A step gives the first payload from the cursor on, and the cursor after its record, or `End` where there is none.
-abbrev pub step_to : Cursor → List Yield → Step
-step_to cursor [] = Steps.End
-step_to cursor (first ∷ later) = Steps.Payload first.place (moved_to cursor first.next)
+-- A step gives the first payload from the cursor on, and the cursor after its record, where there is one.
+abbrev pub step_to : Cursor → List Yield → Option (Place × Cursor)
+step_to cursor [] = None
+step_to cursor (first ∷ later) = Some (first.place, moved_to cursor first.next)
 
-unfoldable pub step_of : Cursor → List ℕ → Step
+unfoldable pub step_of : Cursor → List ℕ → Option (Place × Cursor)
 unfolding yields_from
 step_of cursor bytes = step_to cursor (yields_after cursor bytes)

@@ -4,6 +4,7 @@
 
 mod walk;
 
+pub use fields::ByteOrder;
 pub use record_rule::{Reading, TimeUnit, Timestamp};
 pub use savefile::RecordFormat;
-pub use walk::{Cursor, Opened, Place, Step, open, open_as};
+pub use walk::{Cursor, Place, open, open_as};

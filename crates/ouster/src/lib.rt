@@ -2,8 +2,9 @@
 
 #![tactic(auto)]
 
+mod decoder;
 mod read;
 
-pub use ouster_decode::decode_ouster_packet;
-pub use ouster_settings::OusterSettings;
+pub use ouster_packet::decode_ouster_packet;
+pub use ouster_settings::{OusterSettings, Sensor};
 pub use read::{read_ouster, read_ouster_as};

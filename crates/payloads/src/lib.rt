@@ -2,80 +2,71 @@
 
 #![tactic(auto)]
 
-ghost use Rattle.std.specs.Prelude.{◌≡◌, ◌+◌, get_or};
+ghost use Rattle.std.specs.Prelude.{◌≡◌, slice_get};
 ghost use Rattle.record_rule.specs.Reading.{usual};
-ghost use Rattle.record_rule.specs.Time.{time_numbers};
-ghost use Rattle.capture.specs.Payloads.{places_from, place_of, bytes_at, PartAt, nowhere};
+ghost use Rattle.capture.specs.Payloads.{places_from, place_of, place_of_rank, bytes_at, PartAt};
 
-use capture::{Cursor, Opened, Place, Reading, Step};
+use capture::{Cursor, Place, Reading, Timestamp};
 
-// The payload of a rank, counted from 0, as that part of the capture: empty where there is none. Its record's time is told through the lent numbers, the unit
-// as `TimeUnit::number` numbers it.
-pub fn payload_as<'a>(
-    data: &'a [u8],
-    reading: Reading,
-    port: u16,
-    rank: usize,
-    seconds: &mut u32,
-    fraction: &mut u32,
-    unit: &mut u8,
-) -> &'a [u8]
-    ensures contents { result.now ≡ bytes_at «data».now (place_of reading port rank «data».now) }
-    ensures place { PartAt (place_of reading port rank «data».now).start «data».entry.ref_ptr result.ref_ptr }
-    ensures time { (seconds.new, fraction.new, unit.new) ≡ time_numbers (place_of reading port rank «data».now).time }
+// A payload as that part of the capture, and when its record was captured.
+#[derive(Clone, Copy)]
+pub struct TimedPayload<'a> {
+    pub bytes: &'a [u8],
+    pub time: Timestamp,
+}
+
+// The payload of a rank, counted from 0. Where there is none, the part is empty and the time 0 in microseconds.
+pub fn payload_as<'a>(data: &'a [u8], reading: Reading, port: u16, rank: usize) -> TimedPayload<'a>
+    ensures contents { result.bytes.now ≡ bytes_at «data».now (place_of reading port rank «data».now) }
+    ensures place { PartAt (place_of reading port rank «data».now).start «data».entry.ref_ptr result.bytes.ref_ptr }
+    ensures time { result.time ≡ (place_of reading port rank «data».now).time }
 {
-    let place = payload_place_as(data, reading, port, rank);
-    let time = place.time;
-    time.tell(seconds, fraction, unit);
+    let Some(place) = payload_place_as(data, reading, port, rank) else {
+        return TimedPayload {
+            bytes: &data[..0],
+            time: Timestamp::default(),
+        };
+    };
     let start = place.start;
     let end = start + place.len;
-    &data[start..end]
+    TimedPayload {
+        bytes: &data[start..end],
+        time: place.time,
+    }
 }
 
-pub fn payload<'a>(
-    data: &'a [u8],
-    port: u16,
-    rank: usize,
-    seconds: &mut u32,
-    fraction: &mut u32,
-    unit: &mut u8,
-) -> &'a [u8]
-    ensures contents { result.now ≡ bytes_at «data».now (place_of usual port rank «data».now) }
-    ensures place { PartAt (place_of usual port rank «data».now).start «data».entry.ref_ptr result.ref_ptr }
-    ensures time { (seconds.new, fraction.new, unit.new) ≡ time_numbers (place_of usual port rank «data».now).time }
+pub fn payload<'a>(data: &'a [u8], port: u16, rank: usize) -> TimedPayload<'a>
+    ensures contents { result.bytes.now ≡ bytes_at «data».now (place_of usual port rank «data».now) }
+    ensures place { PartAt (place_of usual port rank «data».now).start «data».entry.ref_ptr result.bytes.ref_ptr }
+    ensures time { result.time ≡ (place_of usual port rank «data».now).time }
 {
-    payload_as(data, Reading::usual(), port, rank, seconds, fraction, unit)
+    payload_as(data, Reading::usual(), port, rank)
 }
 
-// Where that payload stands, and its time: `nowhere` where there is none.
-pub fn payload_place_as(data: &[u8], reading: Reading, port: u16, rank: usize) -> Place
-    ensures { result ≡ place_of reading port rank «data».now }
+// Where that payload stands, and its time.
+pub fn payload_place_as(data: &[u8], reading: Reading, port: u16, rank: usize) -> Option<Place>
+    ensures { result ≡ place_of_rank reading port rank «data».now }
 {
-    let Opened::Walk(cursor) = capture::open_as(data, reading, port) else {
-        return Place::nowhere();
+    let Ok(cursor) = capture::open_as(data, reading, port) else {
+        return None;
     };
     place_from(data, cursor, rank)
 }
 
-pub fn payload_place(data: &[u8], port: u16, rank: usize) -> Place
-    ensures { result ≡ place_of usual port rank «data».now }
+pub fn payload_place(data: &[u8], port: u16, rank: usize) -> Option<Place>
+    ensures { result ≡ place_of_rank usual port rank «data».now }
 {
     payload_place_as(data, Reading::usual(), port, rank)
 }
 
-fn place_from(data: &[u8], cursor: Cursor, rank: usize) -> Place
-    ensures { result ≡ get_or (places_from cursor «data».now) rank nowhere }
+fn place_from(data: &[u8], cursor: Cursor, rank: usize) -> Option<Place>
+    ensures { result ≡ slice_get (places_from cursor «data».now) rank }
 {
     let mut cursor = cursor;
-    let mut left = rank;
-    loop {
-        let Step::Payload(place, next) = cursor.step(data) else {
-            return Place::nowhere();
-        };
-        if left == 0 {
-            return place;
-        }
-        left -= 1;
+    for _passed in 0..rank {
+        let (_, next) = cursor.step(data)?;
         cursor = next;
     }
+    let (place, _) = cursor.step(data)?;
+    Some(place)
 }

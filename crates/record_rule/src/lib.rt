@@ -7,11 +7,11 @@ mod rule;
 mod time;
 
 pub use reading::Reading;
-pub use rule::{Start, Verdict, judge};
+pub use rule::{Part, PassedOver, judge};
 pub use time::{TimeUnit, Timestamp};
 
 // A record of a capture: where its header stands in the data, where its captured bytes start, how many they are, and when they were captured.
-#[derive(Clone, Copy)]
+#[derive(Clone, Copy, Debug, PartialEq, Eq)]
 pub struct Record {
     pub header: usize,
     pub body: usize,

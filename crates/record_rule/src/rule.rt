@@ -4,14 +4,14 @@ ghost use Rattle.std.specs.Prelude.{◌≡◌, not, ◌&&◌, ◌+◌, ◌≤◌
 ghost use Rattle.fields.specs.Number.{big, unsigned_at};
 ghost use Rattle.record_rule.specs.Ethernet.{type_at, ip_start};
 ghost use Rattle.record_rule.specs.Ipv4.{ihl};
-ghost use Rattle.record_rule.specs.Record.{asks_ihl, first_that, udp_tests, payload_of, verdict, start_of};
+ghost use Rattle.record_rule.specs.Record.{asks_ihl, first_that, udp_tests, payload_of, verdict};
 
 use crate::reading::Reading;
-use fields::U16;
+use fields::{ByteOrder, Field};
 
-// What becomes of a record: the test that passes it over, or where its payload starts in it and how long it is.
-#[derive(Clone, Copy)]
-pub enum Verdict {
+// Why a record is passed over: the first of the tests that applies to it.
+#[derive(Clone, Copy, Debug, PartialEq, Eq)]
+pub enum PassedOver {
     ShortRecord,
     NotIpv4,
     WrongVersion,
@@ -20,69 +20,67 @@ pub enum Verdict {
     UdpPastEnd,
     OtherPort,
     NothingFollows,
-    Payload(usize, usize),
 }
 
-// Where the payload starts in its record, and how long it is.
-#[derive(Clone, Copy)]
-pub enum Start {
-    At(usize, usize),
-    Nothing,
+// A part of a record: where it starts in the record's bytes, and how long it is.
+#[derive(Clone, Copy, Debug, PartialEq, Eq)]
+pub struct Part {
+    pub start: usize,
+    pub len: usize,
 }
 
-impl Verdict {
-    pub fn start(self) -> Start
-        ensures { result ≡ start_of self }
-    {
-        match self {
-            Verdict::Payload(start, len) => Start::At(start, len),
-            _ => Start::Nothing,
-        }
-    }
-}
-
-pub fn judge(bytes: &[u8], reading: Reading, port: u16) -> Verdict
+// The part that is the payload, or why there is none.
+pub fn judge(bytes: &[u8], reading: Reading, port: u16) -> Result<Part, PassedOver>
     ensures { result ≡ verdict reading port bytes.now }
 {
     if bytes.len() < 42 {
-        return Verdict::ShortRecord;
+        return Err(PassedOver::ShortRecord);
     }
     let type_at = type_at(bytes);
-    if u16_at(bytes, type_at) != 0x0800 {
-        return Verdict::NotIpv4;
+    let Some(ether_type) = u16::read(bytes, type_at, ByteOrder::Big) else {
+        return Err(PassedOver::NotIpv4);
+    };
+    if ether_type != 0x0800 {
+        return Err(PassedOver::NotIpv4);
     }
     let ip = type_at + 2;
     let first = bytes[ip];
     if first / 16 != 4 {
-        return Verdict::WrongVersion;
+        return Err(PassedOver::WrongVersion);
     }
     if bytes[ip + 9] != 17 {
-        return Verdict::NotUdp;
+        return Err(PassedOver::NotUdp);
     }
     judge_udp(bytes, ip, (first % 16) as usize, reading, port)
 }
 
 // The tests from the IHL on.
-fn judge_udp(bytes: &[u8], ip: usize, words: usize, reading: Reading, port: u16) -> Verdict
+fn judge_udp(
+    bytes: &[u8],
+    ip: usize,
+    words: usize,
+    reading: Reading,
+    port: u16,
+) -> Result<Part, PassedOver>
     requires { (42 ≤ length bytes.now) × (ip ≡ ip_start bytes.now) × (ip ≤ 18) × (words ≡ ihl bytes.now) × (words < 16) }
     ensures { result ≡ first_that (udp_tests reading port bytes.now) (payload_of reading bytes.now) }
 {
     if refuses_ihl(reading, words) {
-        return Verdict::ShortIpHeader;
+        return Err(PassedOver::ShortIpHeader);
     }
     let udp = ip + words * 4;
     let start = udp + 8;
     if bytes.len() < start {
-        return Verdict::UdpPastEnd;
+        return Err(PassedOver::UdpPastEnd);
     }
     if is_other_port(bytes, udp, port) {
-        return Verdict::OtherPort;
+        return Err(PassedOver::OtherPort);
     }
     if bytes.len() <= start {
-        return Verdict::NothingFollows;
+        return Err(PassedOver::NothingFollows);
     }
     let len = bytes.len() - start;
-    Verdict::Payload(start, len)
+    Ok(Part { start, len })
 }
 
 fn refuses_ihl(reading: Reading, words: usize) -> bool
@@ -98,7 +96,10 @@ fn is_other_port(bytes: &[u8], udp: usize, port: u16) -> bool
     requires { udp + 8 ≤ length bytes.now }
     ensures { result ≡ (not (eqb port 0) && not (eqb (unsigned_at big 2 bytes.now (udp + 2)) port)) }
 {
-    port != 0 && u16_at(bytes, udp + 2) != port
+    let Some(destination) = u16::read(bytes, udp + 2, ByteOrder::Big) else {
+        return true;
+    };
+    port != 0 && destination != port
 }
 
 // Where the EtherType stands: after one tag, or without one.
@@ -106,16 +107,8 @@ fn type_at(bytes: &[u8]) -> usize
     requires { 42 ≤ length bytes.now }
     ensures { result ≡ type_at bytes.now }
 {
-    if u16_at(bytes, 12) == 0x8100 { 16 } else { 12 }
-}
-
-// The bytes were tested, so that the number is not missing.
-fn u16_at(bytes: &[u8], off: usize) -> u16
-    requires { off + 2 ≤ length bytes.now }
-    ensures { result ≡ unsigned_at big 2 bytes.now off }
-{
-    let U16::Value(n) = fields::read_u16_be(bytes, off) else {
-        return 0;
+    let Some(first_type) = u16::read(bytes, 12, ByteOrder::Big) else {
+        return 12;
     };
-    n
+    if first_type == 0x8100 { 16 } else { 12 }
 }

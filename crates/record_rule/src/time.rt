@@ -1,42 +1,17 @@
 // When a record was captured, as its capture states it.
 
-ghost use Rattle.std.specs.Prelude.{◌≡◌};
-ghost use Rattle.record_rule.specs.Time.{unit_number, time_numbers};
-
 // The unit of a fraction.
-#[derive(Clone, Copy)]
+#[derive(Clone, Copy, Debug, Default, PartialEq, Eq)]
 pub enum TimeUnit {
+    #[default]
     Microseconds,
     Nanoseconds,
 }
 
 // Seconds since 1970, and the fraction of a second as stored: it may be a second or more.
-#[derive(Clone, Copy)]
+#[derive(Clone, Copy, Debug, Default, PartialEq, Eq)]
 pub struct Timestamp {
     pub seconds: u32,
     pub fraction: u32,
     pub unit: TimeUnit,
-}
-
-impl TimeUnit {
-    pub fn number(self) -> u8
-        ensures { result ≡ unit_number self }
-    {
-        match self {
-            TimeUnit::Microseconds => 0,
-            TimeUnit::Nanoseconds => 1,
-        }
-    }
-}
-
-impl Timestamp {
-    // Tells a time through lent numbers.
-    pub fn tell(self, seconds: &mut u32, fraction: &mut u32, unit: &mut u8)
-        ensures { (seconds.new, fraction.new, unit.new) ≡ time_numbers self }
-    {
-        let stated = self.unit;
-        *seconds = self.seconds;
-        *fraction = self.fraction;
-        *unit = stated.number();
-    }
 }

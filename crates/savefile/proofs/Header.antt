@@ -1,11 +1,7 @@
 -- The file header, case by case: the checks of its length, then what the magic says (`by_magic`). Assumes nothing.
-use Prim.Native.Nat.{ℕ, ◌≤◌, ◌<◌}
-use mathlib.Core.Path.{◌≡◌, sym, ap, ◌∙◌}
-use mathlib.Core.Bool.{cond, not, ◌||◌}
-use mathlib.Core.List.{List, [], ◌∷◌}
-use lib.Dec.{eqb}
-use lib.ListN.{length}
-use borrow.Author.Tests.{lt-ltb, le-ltb, ne_eqb}
+use Rattle.std.specs.Prelude.{ℕ, ◌≤◌, ◌<◌, ◌≡◌, cond, not, ◌||◌, List, [], ◌∷◌, eqb, length}
+use Rattle.std.proofs.Common.{sym, ap, ◌∙◌, lt-ltb, le-ltb, ne_eqb}
+use Rattle.fields.specs.declared.ByteOrder.TheVariants.{Little, Big}
 use Rattle.fields.specs.Number.{big, unsigned_at}
 use Rattle.points.specs.ReadInto.{first_refusal}
 use Rattle.record_rule.specs.declared.reading.Reading.{Reading}
@@ -21,7 +17,7 @@ answer_to reading magic =
     let most_first = eqb magic 0xa1b2c3d4 || eqb magic 0xa1b23c4d in
     let nanoseconds = eqb magic 0x4d3cb2a1 || eqb magic 0xa1b23c4d in
     let n : ℕ = cond (not (least_first || most_first)) 4 0 in
-    (n, cond (eqb n 0) (format_by reading least_first (cond nanoseconds Nanoseconds Microseconds) ∷ []) [])
+    (n, cond (eqb n 0) (format_by reading (cond least_first Little Big) (cond nanoseconds Nanoseconds Microseconds) ∷ []) [])
 
 module _ (reading : Reading) (bytes : List ℕ) where
   -- What an answer says of the records.

@@ -1,21 +1,13 @@
 -- Laws of the records: the bound on their number is not felt, after a record that is there come the others, each lies inside the data and is the one that its
 -- header states, and code's test of a record. Assumes nothing.
-use Prim.Native.Nat.{ℕ, zero, suc, ◌+◌, ◌≤◌, ◌<◌}
-use native.Mathlib.Nat.{lt_of_not-le}
+use Rattle.std.specs.Prelude.{ℕ, zero, suc, ◌+◌, ◌≤◌, ◌<◌, ◌≡◌, cond, List, [], ◌∷◌, leb, length, Some, None}
+use Rattle.std.proofs.Common.{refl, sym, ap, ◌∙◌, subst, inl, inr, arith, lt_of_not-le, le-leb}
 use native.Mathlib.Decide.{dec_le}
-use native.Mathlib.Omega.{arith}
-use mathlib.Core.Path.{◌≡◌, refl, sym, ap, ◌∙◌, subst}
-use mathlib.Core.Bool.{cond}
-use mathlib.Core.Logic.{inl, inr}
-use mathlib.Core.List.{List, [], ◌∷◌}
-use lib.Dec.{leb}
-use lib.ListN.{length}
-use borrow.Author.Tests.{le-leb, lt-leb}
+use Rattle.std.proofs.lemmas.Bool.{lt-leb}
 use Rattle.record_rule.specs.declared.Record.{Record}
 use Rattle.record_rule.specs.Captured.{record_end}
 use Rattle.record_rule.proofs.Inside.{Inside, AllInside, Among}
 use Rattle.savefile.specs.declared.RecordFormat.{RecordFormat}
-use Rattle.savefile.specs.declared.Recorded.TheVariants.{Whole, PastEnd}
 use Rattle.savefile.specs.Savefile.{record_at, records_from}
 use Rattle.savefile.specs.Headers.{recorded_at}
 
@@ -84,19 +76,19 @@ module _ (format : RecordFormat) (bytes : List ℕ) (at : ℕ) where
   abbrev here : Record
   here = record_at format bytes at
 
-  pub past_end : length bytes < record_end here → PastEnd ≡ recorded_at format bytes at
+  pub past_end : length bytes < record_end here → None ≡ recorded_at format bytes at
   unfolding recorded_at
   past_end h = rw (lt-leb (record_end here) (length bytes) h)
 
-  pub whole : Inside bytes here → Whole here ≡ recorded_at format bytes at
+  pub whole : Inside bytes here → Some here ≡ recorded_at format bytes at
   unfolding recorded_at
   whole h = rw (le-leb (record_end here) (length bytes) h)
 
   -- and back
-  pub is_past : recorded_at format bytes at ≡ PastEnd → length bytes < record_end here
+  pub is_past : recorded_at format bytes at ≡ None → length bytes < record_end here
   is_past e = lt_of_not-le (λ (h : record_end here ≤ length bytes). let never : ◌≡◌ {A = ℕ} 0 1 = cc (whole h) in omega arith)
 
-  pub is_whole : (r : Record) → recorded_at format bytes at ≡ Whole r → (r ≡ here) × Inside bytes r
+  pub is_whole : (r : Record) → recorded_at format bytes at ≡ Some r → (r ≡ here) × Inside bytes r
   is_whole r e =
       elim (dec_le (record_end here) (length bytes)) [
         | yes h ↦ let is : r ≡ here = cc (whole h) in (is, rw is h)

@@ -1,14 +1,12 @@
 -- What code tells of a header.
-use Rattle.std.specs.Prelude.{ℕ, cond, List, [], ◌∷◌, leb, eqb, length}
+use Rattle.std.specs.Prelude.{ℕ, cond, List, [], ◌∷◌, leb, eqb, length, Option, Some, None, Result, Ok, Err}
 use Rattle.answers.specs.Answer.{refusal_number}
 use Rattle.points.specs.ReadInto.{first_refusal}
 use Rattle.record_rule.specs.declared.reading.Reading.{Reading}
 use Rattle.record_rule.specs.Captured.{record_end}
-use Rattle.savefile.specs.declared.FileHeader.{FileHeader}
-use Rattle.savefile.specs.declared.FileHeader.TheVariants.{Accepted, Refused}
 use Rattle.savefile.specs.declared.RecordFormat.{RecordFormat}
-use Rattle.savefile.specs.declared.Recorded.{Recorded}
-use Rattle.savefile.specs.declared.Recorded.TheVariants.{Whole, PastEnd}
+use Rattle.answers.specs.declared.Refusal.{Refusal}
+use Rattle.record_rule.specs.declared.Record.{Record}
 use Rattle.savefile.specs.Savefile.{record_at, format_of, checks}
 
 -- The file header gives a number and, where that is 0, how the records are written.
@@ -18,12 +16,12 @@ file_header reading bytes =
     (n, cond (eqb n 0) (format_of reading bytes ∷ []) [])
 
 -- What code's answer stands for.
-abbrev pub of_file_header : FileHeader → ℕ × List RecordFormat
-of_file_header (Accepted format) = (0, format ∷ [])
-of_file_header (Refused refusal) = (refusal_number refusal, [])
+abbrev pub of_file_header : Result RecordFormat Refusal → ℕ × List RecordFormat
+of_file_header (Ok format) = (0, format ∷ [])
+of_file_header (Err refusal) = (refusal_number refusal, [])
 
 -- The record at a place, where all of it is there.
-unfoldable pub recorded_at : RecordFormat → List ℕ → ℕ → Recorded
+unfoldable pub recorded_at : RecordFormat → List ℕ → ℕ → Option Record
 recorded_at format bytes at =
     let r = record_at format bytes at in
-    cond (leb (record_end r) (length bytes)) (Whole r) PastEnd
+    cond (leb (record_end r) (length bytes)) (Some r) None

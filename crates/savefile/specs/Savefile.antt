@@ -1,7 +1,9 @@
 -- The libpcap savefile format: a file header of 24 bytes, then records of a 16-byte header and the captured bytes.
 -- Neither reading looks at the version or the link type.
-use Rattle.std.specs.Prelude.{ℕ, zero, suc, ◌+◌, Bool, true, false, cond, not, ◌||◌, List, [], ◌∷◌, leb, ltb, eqb, length}
-use Rattle.fields.specs.Number.{ByteOrder, little, big, unsigned_at}
+use Rattle.std.specs.Prelude.{ℕ, zero, suc, ◌+◌, Bool, cond, not, ◌||◌, List, [], ◌∷◌, leb, ltb, eqb, length}
+use Rattle.fields.specs.declared.ByteOrder.{ByteOrder}
+use Rattle.fields.specs.declared.ByteOrder.TheVariants.{Little, Big}
+use Rattle.fields.specs.Number.{big, unsigned_at}
 use Rattle.points.specs.ReadInto.{Check, too_long}
 use Rattle.record_rule.specs.declared.Record.{Record}
 use Rattle.record_rule.specs.declared.reading.Reading.{Reading}
@@ -22,15 +24,15 @@ least_first_magic bytes = eqb (unsigned_at big 4 bytes 0) 0xd4c3b2a1 || eqb (uns
 unfoldable pub most_first_magic : List ℕ → Bool
 most_first_magic bytes = eqb (unsigned_at big 4 bytes 0) 0xa1b2c3d4 || eqb (unsigned_at big 4 bytes 0) 0xa1b23c4d
 
--- Whether the numbers of a record's header are big-endian. The format writes the magic in the file's own byte order;
--- the Rust takes it the other way round.
-abbrev pub big_endian_by : Reading → Bool → Bool
-big_endian_by Rust least_first = least_first
-big_endian_by Savefile least_first = not least_first
+-- The byte order of the numbers of a record's header. The format writes the magic in the file's own byte order; the Rust
+-- takes it the other way round.
+abbrev pub other : ByteOrder → ByteOrder
+other Little = Big
+other Big = Little
 
-abbrev pub order_of : Bool → ByteOrder
-order_of true = big
-order_of false = little
+abbrev pub order_by : Reading → ByteOrder → ByteOrder
+order_by Rust magic = other magic
+order_by Savefile magic = magic
 
 -- 4d 3c b2 a1 and a1 b2 3c 4d state nanoseconds.
 unfoldable pub nanosecond_magic : List ℕ → Bool
@@ -42,12 +44,12 @@ unfolding nanosecond_magic
 unit_of bytes = cond (nanosecond_magic bytes) Nanoseconds Microseconds
 
 -- How the records of a file are written: by its magic, and for the byte order by the reading.
-abbrev pub format_by : Reading → Bool → TimeUnit → RecordFormat
-format_by reading least_first unit = record { big_endian = big_endian_by reading least_first; unit = unit }
+abbrev pub format_by : Reading → ByteOrder → TimeUnit → RecordFormat
+format_by reading magic unit = record { order = order_by reading magic; unit = unit }
 
 unfoldable pub format_of : Reading → List ℕ → RecordFormat
 unfolding least_first_magic unit_of
-format_of reading bytes = format_by reading (least_first_magic bytes) (unit_of bytes)
+format_of reading bytes = format_by reading (cond (least_first_magic bytes) Little Big) (unit_of bytes)
 
 -- 3: the data is below 24 bytes; 4: the magic is none of the four. Both readings have the same checks.
 unfoldable pub file_checks : Reading → List ℕ → List Check
@@ -61,13 +63,11 @@ checks reading bytes = too_long bytes ∷ file_checks reading bytes
 
 -- The captured length that the record header at a place states.
 abbrev pub captured_at : RecordFormat → List ℕ → ℕ → ℕ
-captured_at format bytes at = unsigned_at (order_of format.big_endian) 4 bytes (at + 8)
+captured_at format bytes at = unsigned_at format.order 4 bytes (at + 8)
 
 -- The time that it states: seconds in its bytes 0 to 3, the fraction as stored in bytes 4 to 7.
 abbrev pub time_at : RecordFormat → List ℕ → ℕ → Timestamp
-time_at format bytes at =
-    let order = order_of format.big_endian in
-    record { seconds = unsigned_at order 4 bytes at; fraction = unsigned_at order 4 bytes (at + 4); unit = format.unit }
+time_at format bytes at = record { seconds = unsigned_at format.order 4 bytes at; fraction = unsigned_at format.order 4 bytes (at + 4); unit = format.unit }
 
 -- The record whose header stands at a place. Its captured bytes follow the header.
 abbrev pub record_at : RecordFormat → List ℕ → ℕ → Record

@@ -3,130 +3,108 @@
 #![tactic(auto)]
 
 ghost use Rattle.std.specs.Prelude.{◌≡◌, ◌+◌, ◌≤◌, length};
-ghost use Rattle.fields.specs.Number.{unsigned_at, field};
-ghost use Rattle.savefile.specs.Savefile.{order_of, big_endian_by, format_by, time_at};
+ghost use Rattle.savefile.specs.Savefile.{other, order_by, format_by, time_at};
 ghost use Rattle.savefile.specs.Headers.{file_header, of_file_header, recorded_at};
 
-use fields::U32;
+use fields::{ByteOrder, Field};
 use points::Refusal;
 use record_rule::{Reading, Record, TimeUnit, Timestamp};
 
-// How the records of a file are written: whether their numbers are big-endian, by the magic and the reading, and the unit
-// of their fractions, by the magic alone.
-#[derive(Clone, Copy)]
+// How the records of a file are written: the byte order of their numbers, by the magic and the reading, and the unit of
+// their fractions, by the magic alone.
+#[derive(Clone, Copy, Debug, PartialEq, Eq)]
 pub struct RecordFormat {
-    pub big_endian: bool,
+    pub order: ByteOrder,
     pub unit: TimeUnit,
-}
-
-#[derive(Clone, Copy)]
-pub enum FileHeader {
-    Accepted(RecordFormat),
-    Refused(Refusal),
-}
-
-// The record at a place, where all of it is there.
-#[derive(Clone, Copy)]
-pub enum Recorded {
-    Whole(Record),
-    PastEnd,
 }
 
 pub const FILE_HEADER_LEN: usize = 24;
 
 const RECORD_HEADER_LEN: usize = 16;
 
-pub fn file_header(data: &[u8], reading: Reading) -> FileHeader
+pub fn file_header(data: &[u8], reading: Reading) -> Result<RecordFormat, Refusal>
     ensures { of_file_header result ≡ file_header reading «data».now }
 {
-    if points::MAX_DATA_LEN < data.len() {
-        return FileHeader::Refused(Refusal::TooLong);
-    }
+    points::check_len(data)?;
     if data.len() < FILE_HEADER_LEN {
-        return FileHeader::Refused(Refusal::TooShort);
+        return Err(Refusal::TooShort);
     }
-    // The magic's least significant byte first, then its most.
-    match u32_at(data, 0, true) {
-        0xd4c3_b2a1 => FileHeader::Accepted(format_by(reading, true, TimeUnit::Microseconds)),
-        0x4d3c_b2a1 => FileHeader::Accepted(format_by(reading, true, TimeUnit::Nanoseconds)),
-        0xa1b2_c3d4 => FileHeader::Accepted(format_by(reading, false, TimeUnit::Microseconds)),
-        0xa1b2_3c4d => FileHeader::Accepted(format_by(reading, false, TimeUnit::Nanoseconds)),
-        _ => FileHeader::Refused(Refusal::WrongMark),
+    // The magic's least significant byte first, as a little-endian file has it, then its most.
+    let Some(magic) = u32::read(data, 0, ByteOrder::Big) else {
+        return Err(Refusal::TooShort);
+    };
+    match magic {
+        0xd4c3_b2a1 => Ok(format_by(reading, ByteOrder::Little, TimeUnit::Microseconds)),
+        0x4d3c_b2a1 => Ok(format_by(reading, ByteOrder::Little, TimeUnit::Nanoseconds)),
+        0xa1b2_c3d4 => Ok(format_by(reading, ByteOrder::Big, TimeUnit::Microseconds)),
+        0xa1b2_3c4d => Ok(format_by(reading, ByteOrder::Big, TimeUnit::Nanoseconds)),
+        _ => Err(Refusal::WrongMark),
     }
 }
 
 // The reading turns the byte order of the magic, and not its unit.
-fn format_by(reading: Reading, least_first: bool, unit: TimeUnit) -> RecordFormat
-    ensures { result ≡ format_by reading least_first unit }
+fn format_by(reading: Reading, magic: ByteOrder, unit: TimeUnit) -> RecordFormat
+    ensures { result ≡ format_by reading magic unit }
 {
     RecordFormat {
-        big_endian: is_big_endian(reading, least_first),
+        order: order_by(reading, magic),
         unit,
     }
 }
 
-fn is_big_endian(reading: Reading, least_first: bool) -> bool
-    ensures { result ≡ big_endian_by reading least_first }
+fn order_by(reading: Reading, magic: ByteOrder) -> ByteOrder
+    ensures { result ≡ order_by reading magic }
 {
     match reading {
-        Reading::Rust => least_first,
-        Reading::Savefile => !least_first,
+        Reading::Rust => other(magic),
+        Reading::Savefile => magic,
     }
 }
 
-pub fn record_at(data: &[u8], at: usize, format: RecordFormat) -> Recorded
+fn other(order: ByteOrder) -> ByteOrder
+    ensures { result ≡ other order }
+{
+    match order {
+        ByteOrder::Little => ByteOrder::Big,
+        ByteOrder::Big => ByteOrder::Little,
+    }
+}
+
+// The record at a place, where all of it is there.
+pub fn record_at(data: &[u8], at: usize, format: RecordFormat) -> Option<Record>
     ensures { result ≡ recorded_at format «data».now at }
 {
     if data.len() < RECORD_HEADER_LEN {
-        return Recorded::PastEnd;
+        return None;
     }
     if data.len() - RECORD_HEADER_LEN < at {
-        return Recorded::PastEnd;
+        return None;
     }
     let body = at + RECORD_HEADER_LEN;
-    let len = u32_at(data, at + 8, format.big_endian) as usize;
+    let len = u32::read(data, at + 8, format.order)? as usize;
     if data.len() - body < len {
-        return Recorded::PastEnd;
+        return None;
     }
-    Recorded::Whole(Record {
+    Some(Record {
         header: at,
         body,
         len,
-        time: time_at(data, at, format),
+        time: time_at(data, at, format)?,
     })
 }
 
 // The time that the record header at a place states.
-fn time_at(data: &[u8], at: usize, format: RecordFormat) -> Timestamp
+fn time_at(data: &[u8], at: usize, format: RecordFormat) -> Option<Timestamp>
     requires { at + 16 ≤ length «data».now }
-    ensures { result ≡ time_at format «data».now at }
+    ensures { result ≡ Some (time_at format «data».now at) }
 {
     let fraction_at = at + 4;
     let unit = format.unit;
-    Timestamp {
-        seconds: u32_at(data, at, format.big_endian),
-        fraction: u32_at(data, fraction_at, format.big_endian),
+    let seconds = u32::read(data, at, format.order)?;
+    let fraction = u32::read(data, fraction_at, format.order)?;
+    Some(Timestamp {
+        seconds,
+        fraction,
         unit,
-    }
-}
-
-// The header was tested, so that the number is not missing.
-fn u32_at(data: &[u8], off: usize, big_endian: bool) -> u32
-    requires { off + 4 ≤ length «data».now }
-    ensures { result ≡ unsigned_at (order_of big_endian) 4 «data».now off }
-{
-    let U32::Value(n) = read_u32(data, off, big_endian) else {
-        return 0;
-    };
-    n
-}
-
-fn read_u32(data: &[u8], off: usize, big_endian: bool) -> U32
-    ensures { result ≡ field U32.Value U32.Missing (order_of big_endian) 4 «data».now off }
-{
-    if big_endian {
-        fields::read_u32_be(data, off)
-    } else {
-        fields::read_u32_le(data, off)
-    }
+    })
 }

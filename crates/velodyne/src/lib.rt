@@ -2,8 +2,9 @@
 
 #![tactic(auto)]
 
+mod decoder;
 mod read;
 
 pub use read::{read_velodyne, read_velodyne_as};
 pub use velodyne_angles::{VelodyneModel, detect_velodyne_model};
-pub use velodyne_decode::decode_velodyne_packet;
+pub use velodyne_packet::decode_velodyne_packet;

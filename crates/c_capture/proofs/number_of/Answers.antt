@@ -9,10 +9,10 @@ use Rattle.c_capture.proofs.number_of.Goals as goal
 abbrev number : ℕ × List Cursor → ℕ
 number opened = opened.0
 
-pub returns-in-Walk : goal.returns-in-Walk
+pub returns-in-Ok : goal.returns-in-Ok
 unfolding opening
-returns-in-Walk c = ap number (ap of_opened (sym c.in-Walk.is) ∙ c.open_as.ensures)
+returns-in-Ok c = ap number (ap of_opened (sym c.in-Ok.is) ∙ c.open_as.ensures)
 
-pub returns-in-Refused : goal.returns-in-Refused
+pub returns-in-Err : goal.returns-in-Err
 unfolding opening
-returns-in-Refused c = c.number.ensures ∙ ap number (ap of_opened (sym c.in-Refused.is) ∙ c.open_as.ensures)
+returns-in-Err c = c.number.ensures ∙ ap number (ap of_opened (sym c.in-Err.is) ∙ c.open_as.ensures)

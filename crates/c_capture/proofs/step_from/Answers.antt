@@ -9,5 +9,5 @@ returns-in_default c = refused _ _ _ _ _ (ap of_opened (sym c.in_default.is) ∙
 
 pub returns : goal.returns
 returns c =
-    let walk = ap of_opened (sym c.in-Walk.is) ∙ c.open_as.ensures in
+    let walk = ap of_opened (sym c.in-Ok.is) ∙ c.open_as.ensures in
     stepped _ _ _ _ _ _ _ walk c.moved_on.ensures c.step.ensures

@@ -1,31 +1,43 @@
--- `payloads::place_from` meets its contract. The loop's invariant: what is left to count from the cursor reached leads to the same place. A step takes one
--- place off the front (`step_payload`). Assumes nothing.
-use Prim.Native.Nat.{ℕ, zero, suc, ◌-◌}
-use native.Mathlib.Omega.{arith}
-use mathlib.Core.Path.{◌≡◌, refl, sym, ◌∙◌}
-use mathlib.Core.List.{List, ◌∷◌}
-use lib.ListN.{get_or}
+-- `payloads::place_from` meets its contract. The loop's invariant: the places from the cursor reached are those from the first one, without as many as are
+-- passed. A step takes one place off the front (`step_payload`). Assumes nothing.
+use Rattle.std.specs.Prelude.{ℕ, suc, ◌+◌, ◌-◌, ◌≤◌, ◌≡◌, List, slice_get, Some, None}
+use Rattle.std.proofs.Common.{sym, ◌∙◌, arith}
+use Rattle.capture.specs.declared.walk.Cursor.{Cursor}
 use Rattle.capture.specs.declared.walk.Place.{Place}
-use Rattle.capture.specs.Payloads.{places_from, nowhere}
+use Rattle.capture.specs.Payloads.{places_from, step_of}
 use Rattle.capture.proofs.Steps.{step_end, step_payload}
 use Rattle.payloads.proofs.place_from.Goals as goal
 
--- OTHER
-one_less : (p : Place) (l : List Place) (n : ℕ) → (n ≡ 0 → ⊥) → get_or (p ∷ l) n nowhere ≡ get_or l (n - 1) nowhere
-one_less p l zero h = absurd (h refl)
-one_less p l (suc n) h = let e : suc n - 1 ≡ n = omega arith in rw e
+module _ (bytes : List ℕ) (first cursor : Cursor) (n : ℕ) (is : (k : ℕ) → slice_get (places_from first bytes) (n + k) ≡ slice_get (places_from cursor bytes) k) where
+  -- The walk ends before the rank.
+  none_left : (rank : ℕ) → n ≤ rank → step_of cursor bytes ≡ None → None ≡ slice_get (places_from first bytes) rank
+  none_left rank h e =
+      let there : n + (rank - n) ≡ rank = omega arith in
+      sym (rw (there, step_end cursor bytes e) at (is (rank - n)))
 
-pub returns-in_default : goal.returns-in_default
-returns-in_default c =
-    let none = step_end c.loop-place.cursor c.args.«data».now (sym c.step.ensures ∙ c.in_default.is) in
-    c.nowhere.ensures ∙ sym (c.loop-place.invariant ∙ rw none)
+  module _ (place : Place) (next : Cursor) (e : step_of cursor bytes ≡ Some (place, next)) where
+    one_more : (k : ℕ) → slice_get (places_from first bytes) (n + 1 + k) ≡ slice_get (places_from next bytes) k
+    one_more k =
+        let there : n + suc k ≡ n + 1 + k = omega arith in
+        rw (there, step_payload cursor bytes place next e) at (is (suc k))
 
-pub returns-then-left-eq0 : goal.returns-then-left-eq0
-returns-then-left-eq0 c =
-    let front : places_from c.loop-place.cursor c.args.«data».now ≡ c.in-Payload.place ∷ places_from c.in-Payload.next c.args.«data».now = step_payload _ _ _ _ (sym c.step.ensures ∙ c.in-Payload.is) in
-    sym (c.loop-place.invariant ∙ rw (front, c.if-left-eq0.true))
+    found : (rank : ℕ) → n ≡ rank → Some place ≡ slice_get (places_from first bytes) rank
+    found rank h =
+        let there : n + 0 ≡ rank = omega arith in
+        sym (rw (there, step_payload cursor bytes place next e) at (is 0))
 
-pub loop-place-preserved : goal.loop-place-preserved
-loop-place-preserved c =
-    let front : places_from c.loop-place.cursor c.args.«data».now ≡ c.in-Payload.place ∷ places_from c.in-Payload.next c.args.«data».now = step_payload _ _ _ _ (sym c.step.ensures ∙ c.in-Payload.is) in
-    c.loop-place.invariant ∙ rw front (one_less c.in-Payload.place (places_from c.in-Payload.next c.args.«data».now) c.loop-place.left c.if-left-eq0.false)
+pub returns-in_err-next : goal.returns-in_err-next
+returns-in_err-next c =
+    c.from_residual.ensures ∙ none_left c.args.«data».now c.args.cursor c.loop-passed.cursor c.loop-passed._passed c.loop-passed.invariant c.args.rank (omega arith) (sym c.in_err-next.ensures)
+
+pub returns-in_err-place : goal.returns-in_err-place
+returns-in_err-place c =
+    c.from_residual-in_err-place.ensures ∙ none_left c.args.«data».now c.args.cursor c.loop-passed.cursor c.loop-passed._passed c.loop-passed.invariant c.args.rank (omega arith) (sym c.in_err-place.ensures)
+
+pub loop-passed-preserved : goal.loop-passed-preserved
+loop-passed-preserved c =
+    one_more c.args.«data».now c.args.cursor c.loop-passed.cursor c.loop-passed._passed c.loop-passed.invariant c.in_ok-next.field-0-0 c.in_ok-next.next (sym c.in_ok-next.ensures)
+
+pub returns : goal.returns
+returns c =
+    found c.args.«data».now c.args.cursor c.loop-passed.cursor c.loop-passed._passed c.loop-passed.invariant c.in_ok-place.place c.in_ok-place.field-0-1 (sym c.in_ok-place.ensures) c.args.rank (omega arith)

@@ -1,12 +1,8 @@
--- `payloads::place_from` meets its contract. The loop's invariant: what is left to count from the cursor reached leads to the same place. A step takes one
--- place off the front (`step_payload`). Assumes nothing.
-use mathlib.Core.Path.{◌≡◌}
-use lib.ListN.{get_or}
-use Rattle.capture.specs.Payloads.{places_from, nowhere}
+-- `payloads::place_from` meets its contract. The loop's invariant: the places from the cursor reached are those from the first one, without as many as are
+-- passed. A step takes one place off the front (`step_payload`). Assumes nothing.
+use Rattle.std.specs.Prelude.{ℕ, ◌≡◌, ◌+◌, slice_get}
+use Rattle.capture.specs.Payloads.{places_from}
 use Rattle.payloads.proofs.place_from.Given as goal
 
-abbrev pub invariant-loop-place : goal.invariant-loop-place
-invariant-loop-place l = get_or (places_from l.fn.cursor l.«data») l.rank nowhere ≡ get_or (places_from l.cursor l.«data») l.left nowhere
-
-abbrev pub decreases-loop-place : goal.decreases-loop-place
-decreases-loop-place l = l.left
+abbrev pub invariant-loop-passed : goal.invariant-loop-passed
+invariant-loop-passed l = (k : ℕ) → slice_get (places_from l.fn.cursor l.«data») (l._passed + k) ≡ slice_get (places_from l.cursor l.«data») k

@@ -1,35 +1,35 @@
 -- `record_rule::judge` meets its contract. What code reads are the definition's fields, and each way out is a case of its tests. Assumes nothing.
-use Prim.Native.Nat.{◌≤◌}
-use native.Mathlib.Omega.{arith}
-use mathlib.Core.Path.{◌≡◌, sym, ◌∙◌}
-use mathlib.Core.Bool.{true, false}
-use lib.Dec.{ltb, eqb}
-use lib.ListN.{length}
-use borrow.Author.Tests.{lt-ltb, le-ltb, eq-eqb, ne_eqb}
-use Rattle.record_rule.specs.Ethernet.{ether_type}
-use Rattle.record_rule.specs.Ipv4.{version, protocol}
-use Rattle.record_rule.proofs.Tests.{type_small, ether_is, ip_is, version_is, ihl_is, protocol_is, short_record, not_ipv4, wrong_version, not_udp, from_ip}
-use borrow.Author.Rules.{rules}
+use Rattle.std.specs.Prelude.{ℕ, ◌+◌, ◌≤◌, ◌≡◌, List, length, Some}
+use Rattle.std.proofs.Common.{◌∙◌, arith, rules, le-ltb, eq-eqb, ne_eqb}
+use Rattle.fields.specs.Number.{big, field}
+use Rattle.fields.proofs.Opened.{is_number, never_missing}
+use Rattle.record_rule.specs.Ethernet.{type_at, ether_type}
+use Rattle.record_rule.specs.Record.{first_that}
+use Rattle.record_rule.proofs.Tests.{type_small, ether_is, ip_is, ihl_is, short_record, verdict_is}
 use Rattle.record_rule.proofs.rule.judge.Goals as goal
 
+-- The EtherType lies inside, and what is read there is it.
+module _ (bytes : List ℕ) (at : ℕ) (long : 42 ≤ length bytes) (is : at ≡ type_at bytes) where
+  inside : at + 2 ≤ length bytes
+  inside = let small : at ≤ 16 = rw is (type_small bytes) in omega (arith, small)
+
+  read_is : (n : ℕ) → Some n ≡ field (λ n. n) big 2 bytes at → n ≡ ether_type bytes
+  read_is n e = is_number (λ n. n) big 2 bytes at inside e ∙ ether_is bytes at is
+
 pub returns-then-bytes-lt42 : goal.returns-then-bytes-lt42
-returns-then-bytes-lt42 c = short_record _ _ _ (lt-ltb _ _ c.if-bytes-lt42.true)
+returns-then-bytes-lt42 c = short_record _ _ _ c.if-bytes-lt42.true
 
-pub u16_at-requires : goal.u16_at-requires
-u16_at-requires c =
-    let small : c.type_at-type_at.result ≤ 16 = rw c.type_at-type_at.ensures (type_small _) in
-    omega (arith, small)
+pub returns-in_default : goal.returns-in_default
+returns-in_default c = never_missing _ big 2 _ _ (inside _ _ c.if-bytes-lt42.false c.type_at-type_at.ensures) c.in_default.ensures
 
-pub returns-then-u16_at-ne2048 : goal.returns-then-u16_at-ne2048
-returns-then-u16_at-ne2048 c =
-    let ether : c.u16_at.result ≡ ether_type c.args.bytes.now = c.u16_at.ensures ∙ ether_is _ _ c.type_at-type_at.ensures in
-    let long : ltb (length c.args.bytes.now) 42 ≡ false = le-ltb _ _ c.if-bytes-lt42.false in
-    not_ipv4 _ _ _ long (ne_eqb _ _ (λ e. c.if-u16_at-ne2048.true (ether ∙ e)))
+pub returns-then-ether_type-ne2048 : goal.returns-then-ether_type-ne2048
+unfolding first_that
+returns-then-ether_type-ne2048 c =
+    let is = verdict_is c.args.reading c.args.port _ _ _ c.type_at-type_at.ensures (read_is _ _ c.if-bytes-lt42.false c.type_at-type_at.ensures _ c.in-Some.ensures) in
+    rw (le-ltb _ _ c.if-bytes-lt42.false, ne_eqb _ _ c.if-ether_type-ne2048.true) at is
 
 pub overflow_add-ip : goal.overflow_add-ip
-overflow_add-ip c =
-    let small : c.type_at-type_at.result ≤ 16 = rw c.type_at-type_at.ensures (type_small _) in
-    omega (arith, small)
+overflow_add-ip c = let small = inside _ _ c.if-bytes-lt42.false c.type_at-type_at.ensures in omega arith
 
 pub bounds-bytes-ip : goal.bounds-bytes-ip
 bounds-bytes-ip c =
@@ -37,11 +37,10 @@ bounds-bytes-ip c =
     omega (arith, small)
 
 pub returns-then-first-ne4 : goal.returns-then-first-ne4
+unfolding first_that
 returns-then-first-ne4 c =
-    let long : ltb (length c.args.bytes.now) 42 ≡ false = le-ltb _ _ c.if-bytes-lt42.false in
-    let ether : c.u16_at.result ≡ ether_type c.args.bytes.now = c.u16_at.ensures ∙ ether_is _ _ c.type_at-type_at.ensures in
-    let ipv4 : eqb (ether_type c.args.bytes.now) 0x0800 ≡ true = eq-eqb _ _ (sym ether ∙ c.if-u16_at-ne2048.false) in
-    wrong_version _ _ _ long ipv4 (ne_eqb _ _ (λ e. c.if-first-ne4.true (version_is _ _ c.type_at-type_at.ensures ∙ e)))
+    let is = verdict_is c.args.reading c.args.port _ _ _ c.type_at-type_at.ensures (read_is _ _ c.if-bytes-lt42.false c.type_at-type_at.ensures _ c.in-Some.ensures) in
+    rw (le-ltb _ _ c.if-bytes-lt42.false, eq-eqb _ _ c.if-ether_type-ne2048.false, ne_eqb _ _ c.if-first-ne4.true) at is
 
 pub bounds-bytes-ip-2 : goal.bounds-bytes-ip-2
 bounds-bytes-ip-2 c =
@@ -49,12 +48,10 @@ bounds-bytes-ip-2 c =
     omega (arith, small)
 
 pub returns-then-bytes-ip-ne17 : goal.returns-then-bytes-ip-ne17
+unfolding first_that
 returns-then-bytes-ip-ne17 c =
-    let long : ltb (length c.args.bytes.now) 42 ≡ false = le-ltb _ _ c.if-bytes-lt42.false in
-    let ether : c.u16_at.result ≡ ether_type c.args.bytes.now = c.u16_at.ensures ∙ ether_is _ _ c.type_at-type_at.ensures in
-    let ipv4 : eqb (ether_type c.args.bytes.now) 0x0800 ≡ true = eq-eqb _ _ (sym ether ∙ c.if-u16_at-ne2048.false) in
-    let version-4 : eqb (version c.args.bytes.now) 4 ≡ true = eq-eqb _ _ (sym (version_is _ _ c.type_at-type_at.ensures) ∙ c.if-first-ne4.false) in
-    not_udp _ _ _ long ipv4 version-4 (ne_eqb _ _ (λ e. c.if-bytes-ip-ne17.true (protocol_is _ _ c.type_at-type_at.ensures ∙ e)))
+    let is = verdict_is c.args.reading c.args.port _ _ _ c.type_at-type_at.ensures (read_is _ _ c.if-bytes-lt42.false c.type_at-type_at.ensures _ c.in-Some.ensures) in
+    rw (le-ltb _ _ c.if-bytes-lt42.false, eq-eqb _ _ c.if-ether_type-ne2048.false, eq-eqb _ _ c.if-first-ne4.false, ne_eqb _ _ c.if-bytes-ip-ne17.true) at is
 
 pub judge_udp-requires : goal.judge_udp-requires
 judge_udp-requires c =
@@ -63,10 +60,7 @@ judge_udp-requires c =
     (search rules, ip_is _ _ at, omega (arith, small), ihl_is _ _ at, search rules)
 
 pub returns : goal.returns
+unfolding first_that
 returns c =
-    let long : ltb (length c.args.bytes.now) 42 ≡ false = le-ltb _ _ c.if-bytes-lt42.false in
-    let ether : c.u16_at.result ≡ ether_type c.args.bytes.now = c.u16_at.ensures ∙ ether_is _ _ c.type_at-type_at.ensures in
-    let ipv4 : eqb (ether_type c.args.bytes.now) 0x0800 ≡ true = eq-eqb _ _ (sym ether ∙ c.if-u16_at-ne2048.false) in
-    let version-4 : eqb (version c.args.bytes.now) 4 ≡ true = eq-eqb _ _ (sym (version_is _ _ c.type_at-type_at.ensures) ∙ c.if-first-ne4.false) in
-    let udp : eqb (protocol c.args.bytes.now) 17 ≡ true = eq-eqb _ _ (sym (protocol_is _ _ c.type_at-type_at.ensures) ∙ c.if-bytes-ip-ne17.false) in
-    c.judge_udp.ensures ∙ from_ip _ _ _ long ipv4 version-4 udp
+    let is = verdict_is c.args.reading c.args.port _ _ _ c.type_at-type_at.ensures (read_is _ _ c.if-bytes-lt42.false c.type_at-type_at.ensures _ c.in-Some.ensures) in
+    c.judge_udp.ensures ∙ rw (le-ltb _ _ c.if-bytes-lt42.false, eq-eqb _ _ c.if-ether_type-ne2048.false, eq-eqb _ _ c.if-first-ne4.false, eq-eqb _ _ c.if-bytes-ip-ne17.false) at is

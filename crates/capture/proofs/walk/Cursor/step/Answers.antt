@@ -1,18 +1,12 @@
 -- `capture::Cursor::step` meets its contract. The loop's invariant: from the place reached the walk yields what it yields from the cursor on. A record that is
 -- passed over moves the place after it, and a payload is the first of them. Assumes nothing.
-use Prim.Native.Nat.{ℕ, ◌+◌, ◌-◌, ◌≤◌, ◌<◌}
-use native.Mathlib.Omega.{arith}
-use mathlib.Core.Path.{◌≡◌, sym, ap, ◌∙◌}
-use mathlib.Core.List.{List, ◌++◌}
-use lib.ListN.{take, drop}
+use Rattle.std.specs.Prelude.{ℕ, ◌+◌, ◌-◌, ◌≤◌, ◌<◌, ◌≡◌, List, ◌++◌, take, drop, Some, Ok}
+use Rattle.std.proofs.Common.{sym, ap, ◌∙◌, arith}
 use Rattle.record_rule.specs.declared.Record.{Record}
-use Rattle.record_rule.specs.declared.rule.Start.{Start}
-use Rattle.record_rule.specs.declared.rule.Start.TheVariants.{At}
-use Rattle.record_rule.specs.declared.rule.Verdict.{Verdict}
-use Rattle.savefile.specs.declared.Recorded.TheVariants.{Whole}
+use Rattle.record_rule.specs.declared.rule.Part.{Part}
 use Rattle.savefile.specs.Headers.{recorded_at}
 use Rattle.record_rule.specs.Captured.{record_end}
-use Rattle.record_rule.specs.Record.{start_of, verdict}
+use Rattle.record_rule.specs.Record.{Verdict, verdict}
 use Rattle.record_rule.proofs.Inside.{Inside}
 use Rattle.savefile.specs.Savefile.{record_at}
 use Rattle.savefile.proofs.Records.{is_past, is_whole}
@@ -22,49 +16,46 @@ use Rattle.capture.proofs.Records.{at_end, further, at_record, in_record}
 use Rattle.capture.proofs.walk.Cursor.step.Goals as goal
 
 -- The record at the place reached: it lies inside, the walk goes on behind it, and what it yields comes first.
-module _ (self : Cursor) (bytes : List ℕ) (at : ℕ) (here : Record) (read : recorded_at self.format bytes at ≡ Whole here) where
+module _ (self : Cursor) (bytes : List ℕ) (at : ℕ) (here : Record) (read : recorded_at self.format bytes at ≡ Some here) where
   abbrev there : (here ≡ record_at self.format bytes at) × Inside bytes here
   there = is_whole self.format bytes at here read
 
   on : at < record_end here
   on = further self.reading self.format self.port bytes at here there.0 there.1
 
-  module _ (v : Verdict) (judged : v ≡ verdict self.reading self.port (take (record_end here - here.body) (drop here.body bytes))) (s : Start) (starts : s ≡ start_of v) where
-    rule : start_of (verdict self.reading self.port (take (record_end here - here.body) (drop here.body bytes))) ≡ s
-    rule = sym (starts ∙ ap start_of judged)
+  module _ (v : Verdict) (judged : v ≡ verdict self.reading self.port (take (record_end here - here.body) (drop here.body bytes))) where
+    fits : (part : Part) → v ≡ Ok part → part.start + part.len ≤ here.len
+    fits part e = (in_record self.reading self.format self.port bytes at here there.0 there.1 part (sym judged ∙ e)).0
 
-    fits : (start len : ℕ) → s ≡ At start len → start + len ≤ here.len
-    fits start len e = (in_record self.reading self.format self.port bytes at here there.0 there.1 start len (rule ∙ e)).0
-
-    yielded : yields_after self bytes ≡ yields_from self.reading self.format self.port bytes at → (t : Start) → s ≡ t
+    yielded : yields_after self bytes ≡ yields_from self.reading self.format self.port bytes at → (t : Verdict) → v ≡ t
         → yields_after self bytes ≡ yield_at here t ++ yields_from self.reading self.format self.port bytes (record_end here)
-    yielded e t is = e ∙ at_record self.reading self.format self.port bytes at here there.0 there.1 t (rule ∙ is)
+    yielded e t is = e ∙ at_record self.reading self.format self.port bytes at here there.0 there.1 t (sym judged ∙ is)
 
-pub returns-in_default : goal.returns-in_default
+pub returns-in_err-record : goal.returns-in_err-record
 unfolding step_of
-returns-in_default c =
+returns-in_err-record c =
     let a = c.args in
-    let end = is_past a.self.format a.«data».now c.loop-record.at (sym c.record_at.ensures ∙ c.in_default.is) in
-    sym (ap (step_to a.self) (c.loop-record.invariant ∙ at_end a.self.reading a.self.format a.self.port a.«data».now c.loop-record.at end))
+    let end = is_past a.self.format a.«data».now c.loop-record.at (sym c.record_at.ensures ∙ c.in_err-record.was) in
+    c.from_residual.ensures ∙ sym (ap (step_to a.self) (c.loop-record.invariant ∙ at_end a.self.reading a.self.format a.self.port a.«data».now c.loop-record.at end))
 
 pub overflow_add-end : goal.overflow_add-end
-overflow_add-end c = omega (arith, (there c.args.self c.args.«data».now c.loop-record.at c.in-Whole.record (sym c.record_at.ensures ∙ c.in-Whole.is)).1)
+overflow_add-end c = omega (arith, (there c.args.self c.args.«data».now c.loop-record.at c.in_ok-record.record (sym c.record_at.ensures ∙ c.in_ok-record.was)).1)
 
 pub slice_bounds-judge-end : goal.slice_bounds-judge-end
-slice_bounds-judge-end c = (there c.args.self c.args.«data».now c.loop-record.at c.in-Whole.record (sym c.record_at.ensures ∙ c.in-Whole.is)).1
+slice_bounds-judge-end c = (there c.args.self c.args.«data».now c.loop-record.at c.in_ok-record.record (sym c.record_at.ensures ∙ c.in_ok-record.was)).1
 
 pub place_in-requires : goal.place_in-requires
 place_in-requires c =
-    let read : recorded_at c.args.self.format c.args.«data».now c.loop-record.at ≡ Whole c.in-Whole.record = sym c.record_at.ensures ∙ c.in-Whole.is in
+    let read : recorded_at c.args.self.format c.args.«data».now c.loop-record.at ≡ Some c.in_ok-record.record = sym c.record_at.ensures ∙ c.in_ok-record.was in
     omega (
       arith,
-      (there c.args.self c.args.«data».now c.loop-record.at c.in-Whole.record read).1,
-      fits c.args.self c.args.«data».now c.loop-record.at c.in-Whole.record read c.judge-verdict.result c.judge-verdict.ensures c.start.result c.start.ensures _ _ c.in-At.is,
+      (there c.args.self c.args.«data».now c.loop-record.at c.in_ok-record.record read).1,
+      fits c.args.self c.args.«data».now c.loop-record.at c.in_ok-record.record read c.judge.result c.judge.ensures _ c.in-Ok.is,
     )
 
-pub returns-in-At : goal.returns-in-At
+pub returns-in-Ok : goal.returns-in-Ok
 unfolding step_of
-returns-in-At c =
+returns-in-Ok c =
     rw (c.place_in.ensures, c.moved_to.ensures)
     (sym
     (ap
@@ -73,20 +64,18 @@ returns-in-At c =
     c.args.self
     c.args.«data».now
     c.loop-record.at
-    c.in-Whole.record
-    (sym c.record_at.ensures ∙ c.in-Whole.is)
-    c.judge-verdict.result
-    c.judge-verdict.ensures
-    c.start.result
-    c.start.ensures
+    c.in_ok-record.record
+    (sym c.record_at.ensures ∙ c.in_ok-record.was)
+    c.judge.result
+    c.judge.ensures
     c.loop-record.invariant
     _
-    c.in-At.is)))
+    c.in-Ok.is)))
 
 pub loop-record-smaller : goal.loop-record-smaller
 loop-record-smaller c =
-    let read : recorded_at c.args.self.format c.args.«data».now c.loop-record.at ≡ Whole c.in-Whole.record = sym c.record_at.ensures ∙ c.in-Whole.is in
-    omega (arith, (there c.args.self c.args.«data».now c.loop-record.at c.in-Whole.record read).1, on c.args.self c.args.«data».now c.loop-record.at c.in-Whole.record read)
+    let read : recorded_at c.args.self.format c.args.«data».now c.loop-record.at ≡ Some c.in_ok-record.record = sym c.record_at.ensures ∙ c.in_ok-record.was in
+    omega (arith, (there c.args.self c.args.«data».now c.loop-record.at c.in_ok-record.record read).1, on c.args.self c.args.«data».now c.loop-record.at c.in_ok-record.record read)
 
 pub loop-record-preserved : goal.loop-record-preserved
 loop-record-preserved c =
@@ -94,12 +83,10 @@ loop-record-preserved c =
     c.args.self
     c.args.«data».now
     c.loop-record.at
-    c.in-Whole.record
-    (sym c.record_at.ensures ∙ c.in-Whole.is)
-    c.judge-verdict.result
-    c.judge-verdict.ensures
-    c.start.result
-    c.start.ensures
+    c.in_ok-record.record
+    (sym c.record_at.ensures ∙ c.in_ok-record.was)
+    c.judge.result
+    c.judge.ensures
     c.loop-record.invariant
     _
-    c.in_default-start.is
+    c.in_default.is

@@ -1,0 +1,2 @@
+-- The ways through the checks of a capture.
+pub mod Checks
