@@ -8,8 +8,10 @@ ghost use Rattle.livox_file.specs.Livox.{read_livox};
 ghost use Rattle.livox_form.specs.declared.Form.TheVariants.{Lvx, Lvx2};
 
 use c_form::tell;
-use livox::{read_lvx, read_lvx2};
+use livox::read_livox;
+use livox_form::Form;
 
+#[tactic(auto, unfolding(livox_file::specs::Livox::points))]
 #[unsafe(no_mangle)]
 pub extern "C" fn lidar_read_lvx(
     data: &[u8],
@@ -20,9 +22,10 @@ pub extern "C" fn lidar_read_lvx(
 ) -> u8
     ensures { outcome result points.new frames.new numbers.new kinds.new ≡ read_livox Lvx «data».now numbers.old kinds.old }
 {
-    tell(read_lvx(data, numbers, kinds), points, frames)
+    tell(read_livox(Form::Lvx, data, numbers, kinds), points, frames)
 }
 
+#[tactic(auto, unfolding(livox_file::specs::Livox::points))]
 #[unsafe(no_mangle)]
 pub extern "C" fn lidar_read_lvx2(
     data: &[u8],
@@ -33,5 +36,5 @@ pub extern "C" fn lidar_read_lvx2(
 ) -> u8
     ensures { outcome result points.new frames.new numbers.new kinds.new ≡ read_livox Lvx2 «data».now numbers.old kinds.old }
 {
-    tell(read_lvx2(data, numbers, kinds), points, frames)
+    tell(read_livox(Form::Lvx2, data, numbers, kinds), points, frames)
 }

@@ -9,8 +9,10 @@ ghost use Rattle.livox_file.specs.Livox.{read_livox_bits};
 ghost use Rattle.livox_form.specs.declared.Form.TheVariants.{Lvx, Lvx2};
 
 use c_form::tell;
-use livox_bits::{read_lvx_bits, read_lvx2_bits};
+use livox::read_livox;
+use livox_form::Form;
 
+#[tactic(auto, unfolding(livox_file::specs::Livox::point_bits))]
 #[unsafe(no_mangle)]
 pub extern "C" fn lidar_read_lvx_bits(
     data: &[u8],
@@ -21,9 +23,10 @@ pub extern "C" fn lidar_read_lvx_bits(
 ) -> u8
     ensures { outcome result points.new frames.new bits.new kinds.new ≡ read_livox_bits Lvx «data».now bits.old kinds.old }
 {
-    tell(read_lvx_bits(data, bits, kinds), points, frames)
+    tell(read_livox(Form::Lvx, data, bits, kinds), points, frames)
 }
 
+#[tactic(auto, unfolding(livox_file::specs::Livox::point_bits))]
 #[unsafe(no_mangle)]
 pub extern "C" fn lidar_read_lvx2_bits(
     data: &[u8],
@@ -34,5 +37,5 @@ pub extern "C" fn lidar_read_lvx2_bits(
 ) -> u8
     ensures { outcome result points.new frames.new bits.new kinds.new ≡ read_livox_bits Lvx2 «data».now bits.old kinds.old }
 {
-    tell(read_lvx2_bits(data, bits, kinds), points, frames)
+    tell(read_livox(Form::Lvx2, data, bits, kinds), points, frames)
 }

@@ -3,14 +3,15 @@
 #![tactic(auto)]
 
 ghost use Rattle.std.specs.Prelude.{◌≡◌, [], pos};
-ghost use Rattle.std.proofs.Math.Option.{some};
+ghost use Rattle.std.specs.Prelude.{Some};
 ghost use Rattle.livox_stored.specs.Stored.{millimetres, of_stored_reading, ten_millimetres};
 ghost use Rattle.placing.specs.Placing.{by_reading, of_placed, place, pulses};
 ghost use Rattle.placing.specs.Accuracy.{Accurate};
 ghost use Rattle.c_placing.specs.Placed.{received, tell_placed};
 
+use answers::Refusal;
 use livox_stored::StoredReading;
-use placing::{BeltCount, BeltDatum, Placed, PulseLength, place, pulses};
+use placing::{Belt, BeltCount, BeltDatum, PulseLength, place, pulses};
 use units::{Millimetres, TenMillimetres};
 
 pub fn lidar_place_millimetres(
@@ -21,7 +22,7 @@ pub fn lidar_place_millimetres(
     metres: &mut f32,
 ) -> u8
     ensures placed { (result, metres.new) ≡ tell_placed (place (by_reading (millimetres x (pos 0) (pos 0))) count datum pulse_length) metres.old }
-    ensures accurate { Accurate [] (some (millimetres x (pos 0) (pos 0))) count datum pulse_length (received (result, metres.new)) }
+    ensures accurate { Accurate [] (Some (millimetres x (pos 0) (pos 0))) count datum pulse_length (received (result, metres.new)) }
 {
     let in_millimetres = StoredReading::Millimetres(Millimetres(x), Millimetres(0), Millimetres(0));
     tell_place(in_millimetres, count, datum, pulse_length, metres)
@@ -35,7 +36,7 @@ pub fn lidar_place_ten_millimetres(
     metres: &mut f32,
 ) -> u8
     ensures placed { (result, metres.new) ≡ tell_placed (place (by_reading (ten_millimetres x (pos 0) (pos 0))) count datum pulse_length) metres.old }
-    ensures accurate { Accurate [] (some (ten_millimetres x (pos 0) (pos 0))) count datum pulse_length (received (result, metres.new)) }
+    ensures accurate { Accurate [] (Some (ten_millimetres x (pos 0) (pos 0))) count datum pulse_length (received (result, metres.new)) }
 {
     let in_ten_millimetres = StoredReading::TenMillimetres(
         TenMillimetres(x),
@@ -60,23 +61,22 @@ fn tell_place(
 ) -> u8
     ensures { (result, metres.new) ≡ tell_placed (place (by_reading (of_stored_reading reading)) count datum pulse_length) metres.old }
 {
-    let placed = place(
-        reading,
-        BeltCount(count),
-        BeltDatum(datum),
-        PulseLength(pulse_length),
-    );
-    tell(placed, metres)
+    let belt = Belt {
+        count: BeltCount(count),
+        datum: BeltDatum(datum),
+        pulse_length: PulseLength(pulse_length),
+    };
+    tell(place(reading, belt), metres)
 }
 
-pub fn tell(placed: Placed, metres: &mut f32) -> u8
+pub fn tell(placed: Result<f32, Refusal>, metres: &mut f32) -> u8
     ensures { (result, metres.new) ≡ tell_placed (of_placed placed) metres.old }
 {
     match placed {
-        Placed::Metres(distance) => {
+        Ok(distance) => {
             *metres = distance;
             0
         }
-        Placed::Refused(refusal) => refusal.number(),
+        Err(refusal) => refusal.number(),
     }
 }

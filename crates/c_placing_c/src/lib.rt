@@ -4,7 +4,7 @@
 #![tactic(auto)]
 
 ghost use Rattle.std.specs.Prelude.{◌≡◌, [], pos};
-ghost use Rattle.std.proofs.Math.Option.{some};
+ghost use Rattle.std.specs.Prelude.{Some};
 ghost use Rattle.livox_stored.specs.Stored.{millimetres, ten_millimetres};
 ghost use Rattle.placing.specs.Placing.{by_reading, place, pulses};
 ghost use Rattle.placing.specs.Accuracy.{Accurate};
@@ -19,7 +19,7 @@ pub extern "C" fn lidar_place_millimetres(
     metres: &mut f32,
 ) -> u8
     ensures placed { (result, metres.new) ≡ tell_placed (place (by_reading (millimetres x (pos 0) (pos 0))) count datum pulse_length) metres.old }
-    ensures accurate { Accurate [] (some (millimetres x (pos 0) (pos 0))) count datum pulse_length (received (result, metres.new)) }
+    ensures accurate { Accurate [] (Some (millimetres x (pos 0) (pos 0))) count datum pulse_length (received (result, metres.new)) }
 {
     c_placing::lidar_place_millimetres(x, count, datum, pulse_length, metres)
 }
@@ -33,7 +33,7 @@ pub extern "C" fn lidar_place_ten_millimetres(
     metres: &mut f32,
 ) -> u8
     ensures placed { (result, metres.new) ≡ tell_placed (place (by_reading (ten_millimetres x (pos 0) (pos 0))) count datum pulse_length) metres.old }
-    ensures accurate { Accurate [] (some (ten_millimetres x (pos 0) (pos 0))) count datum pulse_length (received (result, metres.new)) }
+    ensures accurate { Accurate [] (Some (ten_millimetres x (pos 0) (pos 0))) count datum pulse_length (received (result, metres.new)) }
 {
     c_placing::lidar_place_ten_millimetres(x, count, datum, pulse_length, metres)
 }

@@ -4,8 +4,8 @@
 #![tactic(auto)]
 
 ghost use Rattle.std.specs.Prelude.{◌≡◌};
-ghost use Rattle.std.proofs.Math.Option.{some};
-ghost use Rattle.std.proofs.Math.ListN.{get_elem?};
+ghost use Rattle.std.specs.Prelude.{Some};
+ghost use Rattle.std.specs.Prelude.{slice_get};
 ghost use Rattle.livox_header.specs.Header.{checks};
 ghost use Rattle.livox_file.specs.Livox.{stored};
 ghost use Rattle.livox_stored.specs.Stored.{of_stored_reading};
@@ -17,9 +17,9 @@ ghost use Rattle.c_placing.specs.Placed.{received, tell_placed};
 ghost use Rattle.c_rank.specs.StoredNumbers.{form_of_flag, stored_numbers, tell_stored};
 
 use livox_form::Form;
-use livox_rank::{StoredAnswer, stored_reading};
+use livox_rank::stored_reading;
 use livox_stored::StoredReading;
-use placing::{BeltCount, BeltDatum, Placed, PulseLength};
+use placing::{Belt, BeltCount, BeltDatum, PulseLength};
 use placing_in_file::place_in_file;
 
 #[unsafe(no_mangle)]
@@ -40,11 +40,11 @@ pub extern "C" fn lidar_stored_reading(
     *second = 0;
     *third = 0;
     match stored_reading(form_of_flag(lvx2), data, rank) {
-        StoredAnswer::Reading(reading) => {
+        Ok(reading) => {
             tell(reading, stored, first, second, third);
             0
         }
-        StoredAnswer::Refused(refusal) => refusal.number(),
+        Err(refusal) => refusal.number(),
     }
 }
 
@@ -59,20 +59,18 @@ pub extern "C" fn lidar_place_in_file(
     metres: &mut f32,
 ) -> u8
     ensures placed { (result, metres.new) ≡ tell_placed (place (by_rank (form_of_flag lvx2) «data».now rank) count datum pulse_length) metres.old }
-    ensures accurate { Accurate (checks (form_of_flag lvx2) «data».now) (get_elem? (stored (form_of_flag lvx2) «data».now) rank) count datum pulse_length (received (result, metres.new)) }
+    ensures accurate { Accurate (checks (form_of_flag lvx2) «data».now) (slice_get (stored (form_of_flag lvx2) «data».now) rank) count datum pulse_length (received (result, metres.new)) }
 {
+    let belt = Belt {
+        count: BeltCount(count),
+        datum: BeltDatum(datum),
+        pulse_length: PulseLength(pulse_length),
+    };
     let form = form_of_flag(lvx2);
-    let placed = place_in_file(
-        form,
-        data,
-        rank,
-        BeltCount(count),
-        BeltDatum(datum),
-        PulseLength(pulse_length),
-    );
-    c_placing::tell(placed, metres)
+    c_placing::tell(place_in_file(form, data, rank, belt), metres)
 }
 
+// C names the form by a flag.
 fn form_of_flag(lvx2: bool) -> Form
     ensures { result ≡ form_of_flag lvx2 }
 {
@@ -80,20 +78,20 @@ fn form_of_flag(lvx2: bool) -> Form
 }
 
 fn tell(reading: StoredReading, stored: &mut u8, first: &mut i64, second: &mut i64, third: &mut i64)
-    ensures { stored_numbers stored.new first.new second.new third.new ≡ tell_stored (some (of_stored_reading reading)) }
+    ensures { stored_numbers stored.new first.new second.new third.new ≡ tell_stored (Some (of_stored_reading reading)) }
 {
     match reading {
         StoredReading::Millimetres(x, y, z) => {
             *stored = 1;
-            *first = x.0 as i64;
-            *second = y.0 as i64;
-            *third = z.0 as i64;
+            *first = i64::from(x.0);
+            *second = i64::from(y.0);
+            *third = i64::from(z.0);
         }
         StoredReading::TenMillimetres(x, y, z) => {
             *stored = 2;
-            *first = x.0 as i64;
-            *second = y.0 as i64;
-            *third = z.0 as i64;
+            *first = i64::from(x.0);
+            *second = i64::from(y.0);
+            *third = i64::from(z.0);
         }
         StoredReading::Spherical {
             depth,
@@ -101,15 +99,15 @@ fn tell(reading: StoredReading, stored: &mut u8, first: &mut i64, second: &mut i
             azimuth,
         } => {
             *stored = 3;
-            *first = depth.0 as i64;
-            *second = zenith.0 as i64;
-            *third = azimuth.0 as i64;
+            *first = i64::from(depth.0);
+            *second = i64::from(zenith.0);
+            *third = i64::from(azimuth.0);
         }
         StoredReading::Float(x, y, z) => {
             *stored = 4;
-            *first = x as i64;
-            *second = y as i64;
-            *third = z as i64;
+            *first = i64::from(x);
+            *second = i64::from(y);
+            *third = i64::from(z);
         }
     }
 }

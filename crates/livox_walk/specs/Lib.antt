@@ -2,3 +2,4 @@
 pub mod Packages
 pub mod Frames
 pub mod Steps
+pub mod Events

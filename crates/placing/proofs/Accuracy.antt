@@ -2,7 +2,7 @@
 -- otherwise is refused here, even where the code says the same. Then the claim, by what a placing comes to (`by_checks`). Assumes nothing.
 use Rattle.std.proofs.Common.{◌≡◌, ℕ, ◌+◌, ◌%◌, ◌^◌, ◌<◌, ◌≤◌, true, false, ltb, ℤ, pos, negsuc, ◌-ℤ◌, nat_abs, sym, refl, ap, ◌∙◌, subst, true≢false, suc-ne-zero, ltb-false, ltb-true, le-ltb}
 use mathlib.Core.Bool.{or-false}
-use mathlib.Core.Option.{Option, none, some}
+use Rattle.std.proofs.Common.{Option, None, Some}
 use lib.Dec.{leb-suc-suc}
 use lib.Ieee.{binary32, div, of_int, round}
 use Rattle.points.specs.ReadInto.{first_refusal}
@@ -17,7 +17,7 @@ use Rattle.placing.proofs.Wrapping.{difference_is, moved_alike, signed_differenc
 -- ---- what the claim needs of the definitions
 
 -- 1,000 and 10,000 micrometres
-pub seen : (reading : Stored) → along reading ≡ seen_at (some reading)
+pub seen : (reading : Stored) → along reading ≡ seen_at (Some reading)
 seen (millimetres x y z) = refl
 seen (ten_millimetres x y z) = refl
 seen (spherical depth zenith azimuth) = refl
@@ -78,5 +78,5 @@ unfolding place checks_of exact_of
 placed_alike asked count datum pulse_length by c d = rw (exact_alike asked.micrometres)
   where
     exact_alike : (m : Option ℤ) → exact_of m ((count + by) % 2 ^ 32) ((datum + by) % 2 ^ 32) pulse_length ≡ exact_of m count datum pulse_length
-    exact_alike (some x) = ap (λ (z : ℤ). exact x z pulse_length) (difference ((count + by) % 2 ^ 32) ((datum + by) % 2 ^ 32) ∙ moved_alike count datum by c d ∙ sym (difference count datum))
-    exact_alike none = refl
+    exact_alike (Some x) = ap (λ (z : ℤ). exact x z pulse_length) (difference ((count + by) % 2 ^ 32) ((datum + by) % 2 ^ 32) ∙ moved_alike count datum by c d ∙ sym (difference count datum))
+    exact_alike None = refl

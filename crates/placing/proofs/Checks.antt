@@ -1,7 +1,7 @@
 -- A placing, check by check: the checks of a file in their order, then 11, 12 and 13, then the distance (`by_checks`). Assumes nothing.
 use Rattle.std.proofs.Common.{◌≡◌, ℕ, zero, suc, ◌^◌, ◌<◌, ◌≤◌, Bool, true, false, ◌||◌, T, ltb, [], ℤ, pos, negsuc, sym, refl, ap, ◌∙◌, subst, true≢false, le_trans, lt_of_le_of_lt, le→leb, lt→ltb, ltb-false}
 use mathlib.Core.Bool.{or-false}
-use mathlib.Core.Option.{some, none}
+use Rattle.std.proofs.Common.{Some, None}
 use lib.Ieee.{Float, binary32, in_float}
 use lib.Signed.{lt_z}
 use Rattle.points.specs.ReadInto.{first_refusal}
@@ -24,7 +24,7 @@ castable low high l h (negsuc n) e = lt→ltb _ _ (lt_of_le_of_lt (ltb-false low
 
 module _ (x : ℤ) (count datum pulse_length : ℕ) where
   abbrev pub at : Asked
-  at = record { checks = []; micrometres = some x }
+  at = record { checks = []; micrometres = Some x }
 
   abbrev pub micrometres : ℤ
   micrometres = exact x (pulses count datum) pulse_length
@@ -43,7 +43,7 @@ module _ (x : ℤ) (count datum pulse_length : ℕ) where
 
 module _ (asked : Asked) (count datum pulse_length : ℕ) where
   -- 11, where no check of a file came first.
-  pub not_placeable : Numbered asked.checks → first_refusal asked.checks ≡ 0 → asked.micrometres ≡ none → refused 11 ≡ place asked count datum pulse_length
+  pub not_placeable : Numbered asked.checks → first_refusal asked.checks ≡ 0 → asked.micrometres ≡ None → refused 11 ≡ place asked count datum pulse_length
   unfolding place checks_of first_refusal
   not_placeable numbered passes nothing = rw (nothing, first_passes asked.checks _ numbered passes)
 
@@ -68,7 +68,7 @@ module _ (asked : Asked) (count datum pulse_length : ℕ) where
       go (suc r) = refusal r
 
   -- Of a point at x whose exact micrometres are d a placing comes to one of four: what holds of each holds of it.
-  pub by_checks : Numbered asked.checks → (x : ℤ) → asked.micrometres ≡ some x → (d : ℤ) → exact x (pulses count datum) pulse_length ≡ d → (P : Placement → Type 0)
+  pub by_checks : Numbered asked.checks → (x : ℤ) → asked.micrometres ≡ Some x → (d : ℤ) → exact x (pulses count datum) pulse_length ≡ d → (P : Placement → Type 0)
       → ((r : ℕ) → first_refusal asked.checks ≡ suc r → P (refused (suc r)))
       → (bad_pulse_length pulse_length ≡ true → P (refused 12))
       → (outside d ≡ true → P (refused 13))

@@ -3,7 +3,7 @@
 use Rattle.std.proofs.Common.{◌≡◌, ℕ, zero, suc, ◌+◌, ◌-◌, ◌%◌, ◌^◌, ◌<◌, ◌≤◌, cond, ltb, ℤ, pos, negsuc, ◌-ℤ◌, nat_abs, sym, refl, ap, ◌∙◌, suc-le-suc, lt_of_not-le, arith, le-ltb, lt-ltb}
 use native.Mathlib.Decide.{dec_le}
 use lib.IntN.{sub_ℕ, +ℤ_idr}
-use Rattle.signed_fields.specs.Signed.{signed}
+use Rattle.fields.specs.Signed.{signed}
 use Rattle.placing.specs.Accuracy.{low32}
 
 -- m − n of two counts from 0 on, and of two below 0, either way

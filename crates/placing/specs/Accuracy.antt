@@ -4,7 +4,7 @@
 -- 16 m, with 13. The stored reading and the file's checks are those of the readers; of `Placing` only what a placing
 -- gives back is shared.
 use Rattle.std.specs.Prelude.{◌≡◌, ℕ, zero, suc, ◌+◌, ◌-◌, ◌*◌, ◌/◌, ◌%◌, ◌^◌, ◌<◌, ◌≤◌, Bool, true, false, cond, List, ℤ, pos, negsuc, ◌+ℤ◌, ◌-ℤ◌, ◌*ℤ◌, neg_ℤ, nat_le, to_bits, unsigned_abs, Float}
-use Rattle.std.proofs.Math.Option.{Option, none, some}
+use Rattle.std.specs.Prelude.{Option, None, Some}
 use Rattle.std.specs.Float.{binary32}
 use Rattle.points.specs.ReadInto.{Check, first_refusal}
 use Rattle.livox_stored.specs.Stored.{Stored, millimetres, ten_millimetres, spherical, float}
@@ -12,11 +12,11 @@ use Rattle.placing.specs.Placing.{Placement, told, refused}
 
 -- The micrometres of a whole-millimetre point's x reading: millimetres × 1,000, or ten-millimetre counts × 10,000.
 abbrev pub seen_at : Option Stored → Option ℤ
-seen_at (some (millimetres x y z)) = some (x *ℤ pos 1000)
-seen_at (some (ten_millimetres x y z)) = some (x *ℤ pos 10000)
-seen_at (some (spherical depth zenith azimuth)) = none
-seen_at (some (float x y z)) = none
-seen_at none = none
+seen_at (Some (millimetres x y z)) = Some (x *ℤ pos 1000)
+seen_at (Some (ten_millimetres x y z)) = Some (x *ℤ pos 10000)
+seen_at (Some (spherical depth zenith azimuth)) = None
+seen_at (Some (float x y z)) = None
+seen_at None = None
 
 -- The remainder by 2 ^ 32 of a whole count, below 0 too: its low 32 bits.
 abbrev pub low32 : ℤ → ℕ
@@ -28,7 +28,7 @@ low32 (negsuc n) = 2 ^ 32 - 1 - n % 2 ^ 32
 -- d, and so of every two.
 pub record ExactDistance (reading : Option Stored) (count datum pulse_length : ℕ) (d : ℤ) : Type 0 where
   pub x : ℤ
-  pub is_seen : seen_at reading ≡ some x
+  pub is_seen : seen_at reading ≡ Some x
   pub whole_count : ℤ
   pub whole_datum : ℤ
   pub is_count : count ≡ low32 whole_count

@@ -1,22 +1,21 @@
 -- Placing a point on the belt: the checks in their order, and the distance that is told. x runs along the belt.
-use Rattle.std.specs.Prelude.{ℕ, zero, suc, ◌+◌, ◌-◌, ◌%◌, ◌^◌, Bool, true, false, ◌||◌, List, [], ◌∷◌, ◌++◌, ℤ, pos, ◌+ℤ◌, ◌*ℤ◌, neg_ℤ, int_lt, nat_lt, Float}
-use Rattle.std.proofs.Math.Option.{Option, some, none}
+use Rattle.std.specs.Prelude.{ℕ, zero, suc, ◌+◌, ◌-◌, ◌%◌, ◌^◌, Bool, true, false, ◌||◌, List, [], ◌∷◌, ◌++◌, ℤ, pos, ◌+ℤ◌, ◌*ℤ◌, neg_ℤ, int_lt, nat_lt, Float, Result, Ok, Err}
+use Rattle.std.specs.Prelude.{Option, Some, None}
 use Rattle.std.specs.Float.{binary32}
 use Rattle.std.specs.Float.Ieee.{of_int, round, div}
-use Rattle.signed_fields.specs.Signed.{signed}
+use Rattle.fields.specs.Signed.{signed}
 use Rattle.answers.specs.Answer.{refusal_number}
 use Rattle.points.specs.ReadInto.{Check, first_refusal}
 use Rattle.livox_stored.specs.Stored.{Stored, millimetres, ten_millimetres, spherical, float}
-use Rattle.placing.specs.declared.Placed.{Placed}
-use Rattle.placing.specs.declared.Placed.TheVariants.{Metres, Refused}
+use Rattle.answers.specs.declared.Refusal.{Refusal}
 
 -- The whole micrometres along the belt of a whole-millimetre point, whose reading is in millimetres or in
 -- ten-millimetre counts.
 abbrev pub along : Stored → Option ℤ
-along (millimetres x y z) = some (x *ℤ pos 1000)
-along (ten_millimetres x y z) = some (x *ℤ pos 10000)
-along (spherical depth zenith azimuth) = none
-along (float x y z) = none
+along (millimetres x y z) = Some (x *ℤ pos 1000)
+along (ten_millimetres x y z) = Some (x *ℤ pos 10000)
+along (spherical depth zenith azimuth) = None
+along (float x y z) = None
 
 -- What is asked to be placed: the checks of a file, none where a reading is given, and the micrometres along the
 -- belt, none where there is no whole-millimetre point.
@@ -39,12 +38,12 @@ exact x moved pulse_length = x +ℤ moved *ℤ pos pulse_length
 -- The same, and 0 where there is no such point: check 11 then comes first, so that it is never told.
 unfoldable pub exact_of : Option ℤ → ℕ → ℕ → ℕ → ℤ
 unfolding pulses
-exact_of (some x) count datum pulse_length = exact x (pulses count datum) pulse_length
-exact_of none count datum pulse_length = pos 0
+exact_of (Some x) count datum pulse_length = exact x (pulses count datum) pulse_length
+exact_of None count datum pulse_length = pos 0
 
 abbrev missing : Option ℤ → Bool
-missing (some x) = false
-missing none = true
+missing (Some x) = false
+missing None = true
 
 -- 12: the pulse length is outside 1 to 1,000 micrometres.
 abbrev pub bad_pulse_length : ℕ → Bool
@@ -82,6 +81,6 @@ unfolding metres first_refusal checks_of exact_of
 place asked count datum pulse_length = placement_of (first_refusal (checks_of asked count datum pulse_length)) (exact_of asked.micrometres count datum pulse_length)
 
 -- The answer of code.
-abbrev pub of_placed : Placed → Placement
-of_placed (Metres x) = told x
-of_placed (Refused refusal) = refused (refusal_number refusal)
+abbrev pub of_placed : Result Float Refusal → Placement
+of_placed (Ok x) = told x
+of_placed (Err refusal) = refused (refusal_number refusal)

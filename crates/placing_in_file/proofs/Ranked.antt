@@ -1,14 +1,7 @@
 -- Placing by file and rank is placing the stored reading of that rank, where there is one; else it gives the number that says why there is none. Demand 3 follows (`both`).
 -- Assumes nothing.
-use Prim.Native.Nat.{ℕ, zero, suc, ◌≤◌, ◌<◌, zero-le}
-use native.Mathlib.Omega.{arith}
-use mathlib.Core.Path.{◌≡◌, refl, sym, ap, ◌∙◌}
-use mathlib.Core.Bool.{Bool, true, false, true≢false, cond}
-use mathlib.Core.List.{List, [], ◌∷◌, ◌++◌}
-use mathlib.Core.Option.{Option, none, some}
-use lib.Dec.{leb}
-use lib.ListN.{length, get_elem?}
-use borrow.Author.Tests.{le-leb, lt-leb}
+use Rattle.std.proofs.Common.{◌≡◌, refl, sym, ap, ◌∙◌, ℕ, zero, suc, ◌≤◌, ◌<◌, zero-le, Bool, true, false, true≢false, cond, List, [], ◌∷◌, ◌++◌, length, slice_get, nat_le, Option, Some, None, Result, Ok, Err, le-leb, arith}
+use borrow.Author.Tests.{lt-leb}
 use Rattle.points.specs.ReadInto.{first_refusal}
 use Rattle.points.proofs.ReadInto.{first_passes, first_decides}
 use Rattle.livox_form.specs.declared.Form.{Form}
@@ -16,7 +9,8 @@ use Rattle.livox_header.specs.Header.{checks}
 use Rattle.livox_header.proofs.Opening.{numbered}
 use Rattle.livox_stored.specs.Stored.{Stored}
 use Rattle.livox_file.specs.Livox.{stored}
-use Rattle.livox_rank.specs.declared.StoredAnswer.{StoredAnswer}
+use Rattle.answers.specs.declared.Refusal.{Refusal}
+use Rattle.livox_stored.specs.declared.StoredReading.{StoredReading}
 use Rattle.livox_rank.specs.Ranks.{of_stored_answer, ranked_as, reading_of_rank}
 use Rattle.placing.specs.Placing.{Asked, by_reading, Placement, place, refused}
 use Rattle.placing.specs.Accuracy.{Accurate, seen_at}
@@ -25,38 +19,38 @@ use Rattle.placing.proofs.Checks.{file_refused, let_through, not_placeable}
 use Rattle.placing_in_file.specs.InFile.{along_if, by_rank}
 
 abbrev there : Option Stored → Bool
-there (some reading) = true
-there none = false
+there (Some reading) = true
+there None = false
 
-inside : (l : List Stored) (k : ℕ) (reading : Stored) → get_elem? l k ≡ some reading → k < length l
+inside : (l : List Stored) (k : ℕ) (reading : Stored) → slice_get l k ≡ Some reading → k < length l
 inside [] k reading e = absurd (true≢false (sym (ap there e)))
 inside (x ∷ l) zero reading e = omega arith
 inside (x ∷ l) (suc k) reading e = omega (arith, inside l k reading e)
 
-past : (l : List Stored) (k : ℕ) → get_elem? l k ≡ none → length l ≤ k
+past : (l : List Stored) (k : ℕ) → slice_get l k ≡ None → length l ≤ k
 past [] k e = zero-le
 past (x ∷ l) zero e = absurd (true≢false (ap there e))
 past (x ∷ l) (suc k) e = omega (arith, past l k e)
 
 seen_if : (reading : Option Stored) → along_if reading ≡ seen_at reading
-seen_if (some reading) = seen reading
-seen_if none = refl
+seen_if (Some reading) = seen reading
+seen_if None = refl
 
 -- where demand 3 has the point
-pub seen_at_rank : (form : Form) (bytes : List ℕ) (rank : ℕ) → (by_rank form bytes rank).micrometres ≡ seen_at (get_elem? (stored form bytes) rank)
-seen_at_rank form bytes rank = seen_if (get_elem? (stored form bytes) rank)
+pub seen_at_rank : (form : Form) (bytes : List ℕ) (rank : ℕ) → (by_rank form bytes rank).micrometres ≡ seen_at (slice_get (stored form bytes) rank)
+seen_at_rank form bytes rank = seen_if (slice_get (stored form bytes) rank)
 
 module _ (count datum pulse_length : ℕ) where
   -- A number and a reading, placed. The number tells why there is no reading.
   abbrev pub placed : ℕ × Option Stored → Placement
-  placed (number, some reading) = place (by_reading reading) count datum pulse_length
-  placed (number, none) = refused number
+  placed (number, Some reading) = place (by_reading reading) count datum pulse_length
+  placed (number, None) = refused number
 
   -- which of the two the list decides
-  at_rank : (l : List Stored) (k : ℕ) → (o : Option Stored) → get_elem? l k ≡ o → placed (ranked_as (cond (leb (length l) k) 11 0) o) ≡ place (record { checks = []; micrometres = along_if o }) count datum pulse_length
+  at_rank : (l : List Stored) (k : ℕ) → (o : Option Stored) → slice_get l k ≡ o → placed (ranked_as (cond (nat_le (length l) k) 11 0) o) ≡ place (record { checks = []; micrometres = along_if o }) count datum pulse_length
   unfolding first_refusal
-  at_rank l k (some reading) e = rw (lt-leb (length l) k (inside l k reading e))
-  at_rank l k none e = rw (le-leb (length l) k (past l k e)) (not_placeable (record { checks = []; micrometres = none }) count datum pulse_length tt refl refl)
+  at_rank l k (Some reading) e = rw (lt-leb (length l) k (inside l k reading e))
+  at_rank l k None e = rw (le-leb (length l) k (past l k e)) (not_placeable (record { checks = []; micrometres = None }) count datum pulse_length tt refl refl)
 
   module _ (form : Form) (bytes : List ℕ) (rank : ℕ) where
     pub ranked : placed (reading_of_rank form bytes rank) ≡ place (by_rank form bytes rank) count datum pulse_length
@@ -64,17 +58,17 @@ module _ (count datum pulse_length : ℕ) where
     ranked = go (first_refusal (checks form bytes)) refl
       where
         go : (n : ℕ) → first_refusal (checks form bytes) ≡ n
-            → placed (ranked_as (first_refusal (checks form bytes ++ (11, leb (length (stored form bytes)) rank) ∷ [])) (get_elem? (stored form bytes) rank)) ≡ place (by_rank form bytes rank) count datum pulse_length
+            → placed (ranked_as (first_refusal (checks form bytes ++ (11, nat_le (length (stored form bytes)) rank) ∷ [])) (slice_get (stored form bytes) rank)) ≡ place (by_rank form bytes rank) count datum pulse_length
         go zero e = rw (first_passes (checks form bytes) _ (numbered form bytes) e) (at_rank (stored form bytes) rank _ refl ∙ let_through (by_rank form bytes rank) count datum pulse_length (numbered form bytes) e)
         go (suc n) e = rw (first_decides (checks form bytes) _ n e) (file_refused (by_rank form bytes rank) count datum pulse_length n e)
 
     -- The two ways of asking agree.
-    pub same_as_by_reading : (reading : Stored) → reading_of_rank form bytes rank ≡ (0, some reading) → place (by_reading reading) count datum pulse_length ≡ place (by_rank form bytes rank) count datum pulse_length
+    pub same_as_by_reading : (reading : Stored) → reading_of_rank form bytes rank ≡ (0, Some reading) → place (by_reading reading) count datum pulse_length ≡ place (by_rank form bytes rank) count datum pulse_length
     same_as_by_reading reading e = sym (ap placed e) ∙ ranked
 
     -- What code finds in the answer of `stored_reading`, placed, and demand 3 of it.
-    pub answered : {answer a : StoredAnswer} {placement : Placement} → answer ≡ a → of_stored_answer answer ≡ reading_of_rank form bytes rank → placement ≡ placed (of_stored_answer a)
-        → (placement ≡ place (by_rank form bytes rank) count datum pulse_length) × Accurate (checks form bytes) (get_elem? (stored form bytes) rank) count datum pulse_length placement
-    answered is gave e =
-        both (by_rank form bytes rank) (numbered form bytes) (get_elem? (stored form bytes) rank) (seen_at_rank form bytes rank) count datum pulse_length
-        (e ∙ ap placed (sym (ap of_stored_answer is) ∙ gave) ∙ ranked)
+    pub answered : (answer : Result StoredReading Refusal) {placement : Placement} → of_stored_answer answer ≡ reading_of_rank form bytes rank → placement ≡ placed (of_stored_answer answer)
+        → (placement ≡ place (by_rank form bytes rank) count datum pulse_length) × Accurate (checks form bytes) (slice_get (stored form bytes) rank) count datum pulse_length placement
+    answered answer gave e =
+        both (by_rank form bytes rank) (numbered form bytes) (slice_get (stored form bytes) rank) (seen_at_rank form bytes rank) count datum pulse_length
+        (e ∙ ap placed gave ∙ ranked)

@@ -16,31 +16,31 @@ ghost use Rattle.units.specs.Conversions.{
 };
 
 // A Velodyne distance, in counts of 2 mm.
-#[derive(Clone, Copy)]
+#[derive(Clone, Copy, Debug, PartialEq, Eq)]
 pub struct TwoMillimetres(pub u16);
 
 // A Livox coordinate.
-#[derive(Clone, Copy)]
+#[derive(Clone, Copy, Debug, PartialEq, Eq)]
 pub struct Millimetres(pub i32);
 
 // A Livox depth or an Ouster range.
-#[derive(Clone, Copy)]
+#[derive(Clone, Copy, Debug, PartialEq, Eq)]
 pub struct UnsignedMillimetres(pub u32);
 
 // An LVX2 coordinate, in counts of 10 mm.
-#[derive(Clone, Copy)]
+#[derive(Clone, Copy, Debug, PartialEq, Eq)]
 pub struct TenMillimetres(pub i16);
 
 // A Velodyne azimuth, or a Livox zenith angle or azimuth.
-#[derive(Clone, Copy)]
+#[derive(Clone, Copy, Debug, PartialEq, Eq)]
 pub struct HundredthsOfDegree(pub u16);
 
 // An Ouster encoder's count, 90,112 to a turn.
-#[derive(Clone, Copy)]
+#[derive(Clone, Copy, Debug, PartialEq, Eq)]
 pub struct EncoderTicks(pub u32);
 
 // How far a belt moved, in pulses of its encoder.
-#[derive(Clone, Copy)]
+#[derive(Clone, Copy, Debug, PartialEq, Eq)]
 pub struct BeltPulses(pub i32);
 
 // The f32 with bits 0x40C90FDB.

@@ -9,17 +9,14 @@ use Rattle.placing.proofs.Checks.{at_most, bad_length, beyond, castable, microme
 use Rattle.placing.proofs.Whole.{sum_in}
 use Rattle.placing.proofs.place_along.Goals as goal
 
--- OTHER
 -- the point's micrometres and the belt's, r, as 64 bits hold their sum
 module _ (x r : ℤ) (fits : SFits w64 x) (near : mag x < 2 ^ 45) (ok : SFits w64 r) (small : mag r < 2 ^ 45) where
   holds : SFits w64 (x +ℤ r)
   holds = omega (arith, sum_in x r)
 
-  -- OTHER
   sum_fits : SFits w64 (to_z w64 (of_z w64 x) +ℤ to_z w64 (of_z w64 r))
   sum_fits = rw (to_z-of_z w64 x fits, to_z-of_z w64 r ok) holds
 
-  -- OTHER
   sum_is : to_z w64 (of_z w64 (to_z w64 (of_z w64 x) +ℤ to_z w64 (of_z w64 r))) ≡ x +ℤ r
   sum_is = to_z-of_z w64 _ sum_fits ∙ rw (to_z-of_z w64 x fits, to_z-of_z w64 r ok)
 
@@ -28,11 +25,11 @@ returns-then-is_bad_pulse_length c = bad_length _ _ _ _ (sym c.is_bad_pulse_leng
 
 pub returns-then-is_outside : goal.returns-then-is_outside
 returns-then-is_outside c =
-    let good : bad_pulse_length c.args.pulse_length.0 ≡ false = sym c.is_bad_pulse_length.ensures ∙ c.if-is_bad_pulse_length.false in
+    let good : bad_pulse_length c.args.belt.pulse_length.0 ≡ false = sym c.is_bad_pulse_length.ensures ∙ c.if-is_bad_pulse_length.false in
     let exact-is : to_z w64 (of_z w64 (to_z w64 (of_z w64 c.args.x) +ℤ to_z w64 (of_z w64 c.times.result)))
-    ≡ micrometres c.args.x c.args.count.0 c.args.datum.0 c.args.pulse_length.0 = let moved = to_z-of_z w32 _ (omega arith) ∙ c.pulses.ensures in
+    ≡ micrometres c.args.x c.args.belt.count.0 c.args.belt.datum.0 c.args.belt.pulse_length.0 = let moved = to_z-of_z w32 _ (omega arith) ∙ c.pulses.ensures in
     sum_is _ _ c.ranges.x c.requires (record { sfits = c.times.type_inv }) c.times.ensures.bounded
-    ∙ ap (λ z. c.args.x +ℤ z) (c.times.ensures.value ∙ ap (λ z. z *ℤ pos c.args.pulse_length.0) moved) in
+    ∙ ap (λ z. c.args.x +ℤ z) (c.times.ensures.value ∙ ap (λ z. z *ℤ pos c.args.belt.pulse_length.0) moved) in
     beyond _ _ _ _ good (ap outside (sym exact-is) ∙ sym c.is_outside.ensures ∙ c.if-is_outside.true)
 
 pub int_to_float-result : goal.int_to_float-result
@@ -41,10 +38,10 @@ int_to_float-result c = castable _ _ (lit≤ tt) (lit≤ tt) _ (sym c.is_outside
 pub returns : goal.returns
 unfolding metres of_bits round
 returns c =
-    let good : bad_pulse_length c.args.pulse_length.0 ≡ false = sym c.is_bad_pulse_length.ensures ∙ c.if-is_bad_pulse_length.false in
+    let good : bad_pulse_length c.args.belt.pulse_length.0 ≡ false = sym c.is_bad_pulse_length.ensures ∙ c.if-is_bad_pulse_length.false in
     let exact-is : to_z w64 (of_z w64 (to_z w64 (of_z w64 c.args.x) +ℤ to_z w64 (of_z w64 c.times.result)))
-    ≡ micrometres c.args.x c.args.count.0 c.args.datum.0 c.args.pulse_length.0 = let moved = to_z-of_z w32 _ (omega arith) ∙ c.pulses.ensures in
+    ≡ micrometres c.args.x c.args.belt.count.0 c.args.belt.datum.0 c.args.belt.pulse_length.0 = let moved = to_z-of_z w32 _ (omega arith) ∙ c.pulses.ensures in
     sum_is _ _ c.ranges.x c.requires (record { sfits = c.times.type_inv }) c.times.ensures.bounded
-    ∙ ap (λ z. c.args.x +ℤ z) (c.times.ensures.value ∙ ap (λ z. z *ℤ pos c.args.pulse_length.0) moved) in
+    ∙ ap (λ z. c.args.x +ℤ z) (c.times.ensures.value ∙ ap (λ z. z *ℤ pos c.args.belt.pulse_length.0) moved) in
     let inside = ap outside (sym exact-is) ∙ sym c.is_outside.ensures ∙ c.if-is_outside.false in
     rw exact-is (within _ _ _ _ good inside)

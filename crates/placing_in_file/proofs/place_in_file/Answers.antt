@@ -1,17 +1,21 @@
 -- `placing_in_file::place_in_file` meets its contract: what is placed is the answer of `stored_reading`, case by case (`answered`). Assumes nothing.
-use mathlib.Core.Path.{refl}
-use borrow.Author.Rules.{rules}
+use Rattle.std.proofs.Common.{Ok, Err}
+use Rattle.std.proofs.lemmas.Result.{err_from_is_err_and}
 use Rattle.placing_in_file.proofs.Ranked.{answered}
 use Rattle.placing_in_file.proofs.place_in_file.Goals as goal
 
-pub returns-in-Reading-clause-placed : goal.returns-in-Reading-clause-placed
-returns-in-Reading-clause-placed c = (answered _ _ _ _ _ _ c.in-Reading.is c.stored_reading.ensures c.place.ensures.placed).0
+pub returns-in_err-reading-clause-placed : goal.returns-in_err-reading-clause-placed
+returns-in_err-reading-clause-placed c =
+    let told = err_from_is_err_and c.from_residual.result c.from_residual.ensures.1 in
+    (answered _ _ _ _ _ _ (Err c.in_err-reading.field-0.0) c.in_err-reading.ensures (rw (told.1, told.2))).0
 
-pub returns-in-Reading-clause-accurate : goal.returns-in-Reading-clause-accurate
-returns-in-Reading-clause-accurate c = (answered _ _ _ _ _ _ c.in-Reading.is c.stored_reading.ensures c.place.ensures.placed).1
+pub returns-in_err-reading-clause-accurate : goal.returns-in_err-reading-clause-accurate
+returns-in_err-reading-clause-accurate c =
+    let told = err_from_is_err_and c.from_residual.result c.from_residual.ensures.1 in
+    (answered _ _ _ _ _ _ (Err c.in_err-reading.field-0.0) c.in_err-reading.ensures (rw (told.1, told.2))).1
 
-pub returns-in-Refused-clause-placed : goal.returns-in-Refused-clause-placed
-returns-in-Refused-clause-placed c = (answered _ _ _ _ _ _ c.in-Refused.is c.stored_reading.ensures refl).0
+pub returns-clause-placed : goal.returns-clause-placed
+returns-clause-placed c = (answered _ _ _ _ _ _ (Ok c.in_ok-reading.reading) c.in_ok-reading.ensures c.place.ensures.placed).0
 
-pub returns-in-Refused-clause-accurate : goal.returns-in-Refused-clause-accurate
-returns-in-Refused-clause-accurate c = (answered _ _ _ _ _ _ c.in-Refused.is c.stored_reading.ensures refl).1
+pub returns-clause-accurate : goal.returns-clause-accurate
+returns-clause-accurate c = (answered _ _ _ _ _ _ (Ok c.in_ok-reading.reading) c.in_ok-reading.ensures c.place.ensures.placed).1
