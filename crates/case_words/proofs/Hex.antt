@@ -1,45 +1,42 @@
--- The bytes of hexadecimal digits from the digits of one byte on, and past the last whole one; and the place and bytes of a word.
-use Rattle.std.proofs.Common.{ℕ, suc, ◌+◌, ◌-◌, ◌*◌, ◌/◌, ◌<◌, ◌≤◌, ◌≡◌, refl, List, [], ◌∷◌, length, take, drop, get_or, set, arith, add-one, length-drop, drop-cons}
-use native.Mathlib.Nat.{sub-zero}
-use lib.ListN.{drop_of_length-le}
-use lib.Seq.{take_all}
+-- The bytes of hexadecimal digits by the pairs of them, and the place and bytes of a word.
+use Rattle.std.proofs.Common.{ℕ, suc, ◌+◌, ◌<◌, ◌≤◌, ◌≡◌, refl, ◌∙◌, ap, List, [], ◌∷◌, ◌++◌, length, take, drop, get_or, set, min, arith, add-one, length-append}
+use Rattle.std.proofs.lemmas.List.{drop-drop}
 use Rattle.std.proofs.lemmas.List.Edits.{sets}
 use Rattle.case_words.specs.Words.{index_of, byte_of, bytes_of, laid, decimal_value}
 
-few : (hex : List ℕ) → length hex < 2 → bytes_of hex ≡ []
+-- The first two digits are those of the first byte.
+pair_first : (pair rest : List ℕ) → 2 ≤ length pair → length pair < 3 → bytes_of (pair ++ rest) ≡ byte_of (get_or pair 0 0) (get_or pair 1 0) ∷ bytes_of rest
 unfolding bytes_of
-few [] short = refl
-few (high ∷ []) short = refl
-few (high ∷ low ∷ hex) short = absurd (omega arith)
+pair_first [] rest h k = absurd (omega arith)
+pair_first (high ∷ []) rest h k = absurd (omega arith)
+pair_first (high ∷ low ∷ []) rest h k = refl
+pair_first (high ∷ low ∷ more ∷ pair) rest h k = absurd (omega arith)
 
-module _ (hex : List ℕ) (i : ℕ) where
-  pub next : i < length hex / 2 → bytes_of (drop (i * 2) hex) ≡ byte_of (get_or hex (i * 2) 0) (get_or hex (i * 2 + 1) 0) ∷ bytes_of (drop ((i + 1) * 2) hex)
-  unfolding bytes_of
-  next more =
-      let one : i * 2 < length hex = omega arith in
-      let two : suc (i * 2) < length hex = omega arith in
-      let second : i * 2 + 1 ≡ suc (i * 2) = omega arith in
-      let past : (i + 1) * 2 ≡ suc (suc (i * 2)) = omega arith in
-      rw (second, past, drop-cons hex (i * 2) 0 one, drop-cons hex (suc (i * 2)) 0 two)
+-- A digit alone is none.
+pub alone : (digits : List ℕ) → length digits < 2 → bytes_of digits ≡ []
+unfolding bytes_of
+alone [] short = refl
+alone (high ∷ []) short = refl
+alone (high ∷ low ∷ digits) short = absurd (omega arith)
 
-  -- The byte of these digits is stored, and those after it are left.
-  pub stored : i < length hex / 2 → (at : ℕ) (bytes : List ℕ) {byte : ℕ} {bytes' whole : List ℕ} → byte ≡ byte_of (get_or hex (i * 2) 0) (get_or hex (i * 2 + 1) 0) → bytes' ≡ set bytes (at + i) byte → sets bytes (at + i) (bytes_of (drop (i * 2) hex)) ≡ whole → sets bytes' (at + (i + 1)) (bytes_of (drop ((i + 1) * 2) hex)) ≡ whole
-  stored more at bytes byte-is put is =
-      let past : at + (i + 1) ≡ suc (at + i) = omega arith in
-      rw (put, byte-is, past) (rw (next more) at is)
+nothing : (digits : List ℕ) → length digits ≡ 0 → digits ≡ []
+nothing [] e = refl
+nothing (digit ∷ digits) e = absurd (omega arith)
 
-  pub none : length hex / 2 ≤ i → bytes_of (drop (i * 2) hex) ≡ []
-  none over = few (drop (i * 2) hex) (simp length-drop (omega arith))
+module _ (at i i' : ℕ) (bytes whole digits rest : List ℕ) (pair : List ℕ) (cut : digits ≡ pair ++ rest) (next : i' ≡ i + 1) (is : sets bytes (at + i) (bytes_of digits) ≡ whole) where
+  -- The byte of two digits is stored, and those after it are left.
+  pub stored : 2 ≤ length pair → length pair < 3 → {byte : ℕ} {bytes' : List ℕ} → byte ≡ byte_of (get_or pair 0 0) (get_or pair 1 0) → bytes' ≡ set bytes (at + i) byte → sets bytes' (at + i') (bytes_of rest) ≡ whole
+  stored two no_more byte_is put =
+      let past : at + i' ≡ suc (at + i) = omega arith in
+      rw (put, byte_is, past) (rw (cut, pair_first pair rest two no_more) at is)
 
--- As code has them, with the place of = in the word.
-module _ (word bytes : List ℕ) (mark : ℕ) (e : mark ≡ 0 + index_of 61 (drop 0 word)) where
-  mark_is : index_of 61 word ≡ mark
-  mark_is = let is : mark ≡ 0 + index_of 61 word = e in omega arith
+  -- A digit that is left over is none of a byte.
+  pub left_over : length pair < 2 → length pair ≡ min 2 (length digits) → sets bytes (at + i') (bytes_of rest) ≡ whole
+  left_over one len =
+      let long : length digits ≡ length pair + length rest = ap (λ d. length d) cut ∙ length-append pair rest in
+      let none : rest ≡ [] = nothing rest (omega arith) in
+      rw (none, alone [] (omega arith)) (rw (alone digits (omega arith)) at is)
 
-  pub marked : laid bytes word ≡ sets bytes (decimal_value (take (mark - 0) word)) (bytes_of (take (length word - (mark + 1)) (drop (mark + 1) word)))
-  unfolding laid
-  marked = rw (mark_is, take_all (length word - (mark + 1)) (drop (mark + 1) word) (simp length-drop (omega arith)), add-one, sub-zero)
-
-  pub unmarked : length word ≤ mark → laid bytes word ≡ bytes
-  unfolding laid bytes_of
-  unmarked over = rw (mark_is, drop_of_length-le word {i = suc mark} (omega arith))
+pub marked : (word bytes : List ℕ) → sets bytes (decimal_value (take (index_of 61 word) word)) (bytes_of (drop 1 (drop (index_of 61 word) word))) ≡ laid bytes word
+unfolding laid
+marked word bytes = rw (drop-drop, add-one) refl

@@ -1,5 +1,3 @@
--- The laws of a text's words, and of the bytes in them.
-
-mod Places
-mod Words
+-- The laws of a text's pieces, and of the bytes in them.
+mod Cuts
 mod Hex

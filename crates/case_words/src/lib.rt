@@ -2,73 +2,126 @@
 
 #![tactic(auto)]
 
-ghost use Rattle.std.specs.Prelude.{◌≡◌, ◌+◌, ◌≤◌, replicate, set, take, drop, length};
+ghost use Rattle.std.specs.Prelude.{◌≡◌, ◌+◌, ◌≤◌, replicate, set, take, drop, length, fold, position, ◌==◌, ℕ, Option, Some};
+ghost use Rattle.std.specs.Iterator.{YieldsFirstBy, item_count};
 ghost use Rattle.std.proofs.lemmas.List.Edits.{sets};
-ghost use Rattle.case_words.specs.Pattern.{pattern_of};
-ghost use Rattle.case_words.specs.Words.{byte_of, bytes_of, index_of, hex_digit, laid, laid_all, decimal_value, with_digit, word_of, words_of};
+ghost use Rattle.case_words.specs.Pattern.{pattern_of, told_of};
+ghost use Rattle.case_words.specs.Words.{byte_of, bytes_of, index_of, hex_digit, laid, laid_all, decimal_value, pieces_of, with_digit, word_of, words_of};
+ghost use Rattle.case_words.specs.Pieces.{pieces_left};
 
-// The first place of a byte from a place on; where it is not there, the text's end.
-#[tactic(auto, using(crate::proofs::Places::found_here, crate::proofs::Places::found_later, crate::proofs::Places::found_nowhere))]
-pub fn find(text: &[u8], from: usize, byte: u8) -> usize
-    ensures place { result ≡ from + index_of byte (drop from text.now) }
-    ensures within { from ≤ length text.now → result ≤ length text.now }
-{
-    let mut at = from;
-    while at < text.len() {
-        if text[at] == byte {
-            return at;
+use std::fmt;
+use std::fmt::Display;
+
+// A line of a list of cases: what it is called, a colon, the call, its numbers, and its file's bytes.
+#[derive(Clone, Copy)]
+pub struct Case<'a> {
+    pub name: &'a [u8],
+    // From the colon on. Words are counted from the colon, which is word 0: the call is word 1, and
+    // the file's length word 2.
+    pub text: &'a [u8],
+}
+
+impl<'a> Case<'a> {
+    pub fn of(line: &'a [u8]) -> Self
+        ensures name { result.name.now ≡ take (index_of 58 line.now) line.now }
+        ensures text { result.text.now ≡ drop (index_of 58 line.now) line.now }
+    {
+        let (name, text) = line.split_at(find(line, b':'));
+        Case { name, text }
+    }
+
+    // The word of a rank; where there is none, an empty one.
+    pub fn word(&self, rank: usize) -> &'a [u8]
+        ensures { result.now ≡ word_of self.now.text.now rank }
+    {
+        Pieces::of(self.text, b' ').nth(rank).unwrap_or(&[])
+    }
+
+    // The number that the word of a rank is.
+    pub fn number(&self, rank: usize) -> u64
+        ensures { result ≡ decimal_value (word_of self.now.text.now rank) }
+    {
+        decimal(self.word(rank))
+    }
+
+    // Lays the bytes of all words at their places.
+    pub fn lay(&self, space: &mut [u8])
+        ensures { space.new ≡ laid_all space.old (words_of self.now.text.now) }
+    {
+        for word in Pieces::of(self.text, b' ') {
+            lay_word(word, space);
         }
-        at += 1;
     }
-    at
+
+    // The case's file, in a space that is all zeros: as many bytes as its length says, or all.
+    pub fn data<'s>(&self, space: &'s mut [u8]) -> &'s [u8]
+        ensures { result.now ≡ take (decimal_value (word_of self.now.text.now 2)) (laid_all space.old (words_of self.now.text.now)) }
+    {
+        self.lay(space);
+        front(space, self.number(2))
+    }
 }
 
-// The word of a rank; where there is none, an empty one.
-pub fn word(text: &[u8], rank: usize) -> &[u8]
-    ensures { result.now ≡ word_of text.now rank }
-{
-    let mut at: usize = 0;
-    let mut left = rank;
-    while at < text.len() {
-        let end = find(text, at, b' ');
-        if left == 0 {
-            return &text[at..end];
+// The pieces of a text that a byte ends, as lines and words. The text's end ends one, too.
+#[derive(Clone, Copy)]
+pub struct Pieces<'a> {
+    rest: &'a [u8],
+    end: u8,
+}
+
+impl<'a> Pieces<'a> {
+    pub fn of(text: &'a [u8], end: u8) -> Self
+        ensures { pieces_left result ≡ pieces_of end text.now }
+    {
+        Pieces { rest: text, end }
+    }
+}
+
+impl<'a> Iterator for Pieces<'a> {
+    type Item = &'a [u8];
+
+    ghost next_gives = { YieldsFirstBy (λ piece. piece.now) pieces_left };
+
+    ghost remaining = { item_count pieces_left };
+
+    #[tactic(auto, using(crate::proofs::Cuts::of_none, crate::proofs::Cuts::of_some))]
+    fn next(&mut self) -> Option<&'a [u8]> {
+        if self.rest.is_empty() {
+            return None;
         }
-        left -= 1;
-        at = end + 1;
+        let (piece, rest) = self.rest.split_at(find(self.rest, self.end));
+        self.rest = tail(rest);
+        Some(piece)
     }
-    &text[0..0]
 }
 
-// The number that the word of a rank is.
-pub fn number(text: &[u8], rank: usize) -> u64
-    ensures { result ≡ decimal_value (word_of text.now rank) }
+// The first place of a byte; where it is not there, the text's end.
+#[tactic(auto, using(crate::proofs::Cuts::or_len))]
+pub fn find(text: &[u8], byte: u8) -> usize
+    ensures place { result ≡ index_of byte text.now }
+    ensures within { result ≤ length text.now }
 {
-    decimal(word(text, rank))
+    first(text, byte).unwrap_or(text.len())
 }
 
-// Lays the bytes of all words at their places.
-pub fn lay(text: &[u8], space: &mut [u8])
-    ensures { space.new ≡ laid_all space.old (words_of text.now) }
+fn first(text: &[u8], byte: u8) -> Option<usize>
+    ensures { result ≡ position (λ x. x == byte) text.now }
 {
-    let mut at: usize = 0;
-    while at < text.len() {
-        let end = find(text, at, b' ');
-        lay_word(&text[at..end], space);
-        at = end + 1;
-    }
+    text.iter().position(|b| *b == byte)
+}
+
+// What follows the first byte.
+fn tail(text: &[u8]) -> &[u8]
+    ensures { result.now ≡ drop 1 text.now }
+{
+    text.get(1..).unwrap_or(&[])
 }
 
 // The first len bytes, or all of them.
 pub fn front(space: &[u8], len: u64) -> &[u8]
     ensures { result.now ≡ take len space.now }
 {
-    let n = len as usize;
-    if n <= space.len() {
-        &space[0..n]
-    } else {
-        space
-    }
+    space.get(..len as usize).unwrap_or(space)
 }
 
 // Room for a list of cases.
@@ -78,41 +131,68 @@ pub fn list_buffer() -> [u8; 262144]
     [0; 262144]
 }
 
-// What is told of a number.
-#[derive(Clone, Copy)]
-pub enum Pattern {
-    Bits(u32),
-    Nan,
+// A number that is told by its bits: itself, or those that are a number.
+pub trait Number: Copy {
+    ghost pattern: { Self → Option ℕ };
+
+    fn pattern(self) -> Option<u32>
+        ensures { result ≡ pattern self };
 }
 
-impl Pattern {
-    // `f32::to_bits` is undefined at a NaN.
-    pub fn of(x: f32) -> Self
-        ensures { result ≡ pattern_of x }
-    {
-        if x != x {
-            Pattern::Nan
-        } else {
-            Pattern::Bits(f32::to_bits(x))
+impl Number for f32 {
+    ghost pattern = { pattern_of };
+
+    fn pattern(self) -> Option<u32> {
+        pattern_of(self)
+    }
+}
+
+impl Number for u32 {
+    ghost pattern = { λ bits. Some bits };
+
+    fn pattern(self) -> Option<u32> {
+        Some(self)
+    }
+}
+
+// What is told of a number: its bits, and of a NaN that it is one.
+#[derive(Clone, Copy, Drop)]
+pub struct Told(pub Option<u32>);
+
+impl Display for Told {
+    ghost output = { λ told. Some (told_of told.0) };
+
+    fn fmt<W: fmt::Write>(&self, f: &mut fmt::Formatter<W>) -> fmt::Result {
+        match self.0 {
+            Some(bits) => write!(f, "{bits:08x}"),
+            None => write!(f, "nan"),
         }
     }
 }
 
+// The bits of a number; of a NaN there are none, since `f32::to_bits` is undefined there.
+#[tactic(auto, unfolding(crate::specs::Pattern::pattern_of))]
+pub fn pattern_of(x: f32) -> Option<u32>
+    ensures { result ≡ pattern_of x }
+{
+    if x.is_nan() { None } else { Some(x.to_bits()) }
+}
+
+#[tactic(auto, using(crate::proofs::Hex::marked))]
 fn lay_word(word: &[u8], space: &mut [u8])
     ensures { space.new ≡ laid space.old word.now }
 {
-    let mark = find(word, 0, b'=');
-    if mark < word.len() {
-        let place = decimal(&word[0..mark]);
-        lay_hex(&word[mark + 1..word.len()], place as usize, space);
-    }
+    let (place, hex) = word.split_at(find(word, b'='));
+    lay_hex(tail(hex), decimal(place) as usize, space);
 }
 
 fn lay_hex(hex: &[u8], at: usize, space: &mut [u8])
     ensures { space.new ≡ sets space.old at (bytes_of hex.now) }
 {
-    for i in 0..hex.len() / 2 {
-        put(space, at, i, byte(hex[i * 2], hex[i * 2 + 1]));
+    for (i, pair) in hex.chunks(2).enumerate() {
+        if let [high, low] = pair {
+            put(space, at, i, byte(*high, *low));
+        }
     }
 }
 
@@ -120,13 +200,9 @@ fn lay_hex(hex: &[u8], at: usize, space: &mut [u8])
 fn put(space: &mut [u8], at: usize, i: usize, b: u8)
     ensures { space.new ≡ set space.old (at + i) b }
 {
-    if space.len() <= at {
-        return;
+    if at < space.len() && i < space.len() - at {
+        space[at + i] = b;
     }
-    if space.len() - at <= i {
-        return;
-    }
-    space[at + i] = b;
 }
 
 #[tactic(auto, unfolding(crate::specs::Words::hex_digit))]
@@ -146,11 +222,7 @@ fn hex_digit(b: u8) -> u8
 fn decimal(word: &[u8]) -> u64
     ensures { result ≡ decimal_value word.now }
 {
-    let mut n: u64 = 0;
-    for i in 0..word.len() {
-        n = with_digit(n, word[i]);
-    }
-    n
+    word.iter().fold(0, |n, b| with_digit(n, *b))
 }
 
 #[tactic(auto, unfolding(crate::specs::Words::with_digit))]

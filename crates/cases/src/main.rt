@@ -19,77 +19,64 @@
 
 #![tactic(auto)]
 
-mod ouster_parameters;
 mod parameters;
-mod pattern_calls;
-mod payload_calls;
-mod show;
-mod value_calls;
+mod payload_call;
+mod readers;
 
-use input::Ended;
+use case_lists::Calls;
+use case_words::Case;
+use console::Console;
+use lidar::{Form, OusterSettings};
 use std::io;
-use std::io::{ErrorKind, Read};
-use std::rt::Runtime;
+use std::io::Write;
 
 fn main(rt: HostRuntime) {
-    let mut reader = rt.stdin();
-    let mut space = case_words::list_buffer();
-    let len = input::read_full(&mut reader, &mut space);
-    let mut next = [0u8; 1];
-    let more = reader.read(&mut next);
-    match Ended::of(len, space.len(), input::answered(&more)) {
-        Ended::Whole => run(&rt, &space[..len]),
-        Ended::TooLong => {
-            show::write(&rt, b"too long\n");
+    let mut out = Console {
+        rt: &rt,
+        program: "cases",
+        out: io::writer(&rt),
+    };
+    FileCalls.run(&mut out, &mut rt.stdin());
+}
+
+struct FileCalls;
+
+impl Calls for FileCalls {
+    fn tell<R: Eprint, W: Write>(&self, out: &mut Console<'_, R, W>, case: &Case<'_>, data: &[u8]) {
+        match case.word(1) {
+            b"payload" => payload_call::tell(out, case, data),
+            b"kitti" => readers::tell(out, case, [7.0f32; 24], |numbers, kinds| {
+                lidar::read_kitti(data, numbers, kinds)
+            }),
+            b"packet" => readers::tell(out, case, [7.0f32; 24], |numbers, kinds| {
+                lidar::decode_velodyne_packet(data, numbers, kinds)
+            }),
+            b"velodyne" => readers::tell_velodyne(out, case, data),
+            b"ouster" => {
+                let altitudes = parameters::halves();
+                let altitudes = parameters::front(&altitudes, case.number(8));
+                readers::tell_ouster(out, case, data, parameters::settings(case), altitudes);
+            }
+            b"os1-64" => {
+                let altitudes = OusterSettings::os1_64_altitudes();
+                readers::tell_ouster(out, case, data, OusterSettings::os1_64(), &altitudes);
+            }
+            b"os-128" => {
+                let altitudes = OusterSettings::os_128_altitudes();
+                readers::tell_ouster(out, case, data, OusterSettings::os_128(), &altitudes);
+            }
+            b"kitti-bits" => readers::tell(out, case, [7u32; 24], |bits, kinds| {
+                lidar::read_kitti(data, bits, kinds)
+            }),
+            b"lvx" => readers::tell(out, case, [7u32; 24], |bits, kinds| {
+                lidar::read_livox(Form::Lvx, data, bits, kinds)
+            }),
+            b"lvx2" => readers::tell(out, case, [7u32; 24], |bits, kinds| {
+                lidar::read_livox(Form::Lvx2, data, bits, kinds)
+            }),
+            _ => {
+                out.write(b" no such call");
+            }
         }
-        Ended::Failed => show::fail(&rt, "cases: standard input", reason(more)),
     }
-}
-
-// Why reading failed. Where one more read gave bytes, the one before it was interrupted.
-fn reason(more: io::Result<usize>) -> io::Error {
-    match more {
-        Ok(_) => io::Error::from(ErrorKind::Interrupted),
-        Err(error) => error,
-    }
-}
-
-// Goes on while what is told can be written.
-fn run<R: Runtime>(rt: &R, text: &[u8]) {
-    let mut at: usize = 0;
-    while at < text.len() {
-        let end = case_words::find(text, at, b'\n');
-        if !case(rt, &text[at..end]) {
-            return;
-        }
-        at = end + 1;
-    }
-}
-
-fn case<R: Runtime>(rt: &R, line: &[u8]) -> bool {
-    let colon = case_words::find(line, 0, b':');
-    if !show::write(rt, &line[0..colon]) {
-        return false;
-    }
-    show::write(rt, b":");
-    call(rt, &line[colon..line.len()]);
-    show::write(rt, b"\n")
-}
-
-// Words are counted from the colon, which is word 0: the call is word 1, and the file's length word 2.
-fn call<R: Runtime>(rt: &R, text: &[u8]) {
-    let mut space = [0u8; 32768];
-    case_words::lay(text, &mut space);
-    let data = case_words::front(&space, case_words::number(text, 2));
-    if !tell(rt, case_words::word(text, 1), text, data) {
-        show::write(rt, b" no such call");
-    }
-}
-
-fn tell<R: Runtime>(rt: &R, name: &[u8], text: &[u8], data: &[u8]) -> bool {
-    if name == b"payload".as_slice() {
-        payload_calls::tell(rt, text, data);
-        return true;
-    }
-    value_calls::tell(rt, name, text, data) || pattern_calls::tell(rt, name, text, data)
 }

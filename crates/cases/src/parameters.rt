@@ -2,26 +2,49 @@
 
 ghost use Rattle.std.specs.Prelude.{◌≤◌};
 
-use lidar::Reading;
-
-// In the place of a reading: the call that names none.
-pub(crate) const NOT_NAMED: u64 = 2;
+use case_words::Case;
+use lidar::{OusterSettings, Reading};
 
 // There is room for eight points at most.
-pub(crate) fn room(n: u64) -> usize
+pub(crate) fn room(case: &Case<'_>) -> usize
     ensures { result ≤ 8 }
 {
-    (n % 9) as usize
+    (case.number(3) % 9) as usize
 }
 
-pub(crate) fn port(n: u64) -> u16 {
-    (n % 65536) as u16
+pub(crate) fn port(case: &Case<'_>, rank: usize) -> u16 {
+    (case.number(rank) % 65536) as u16
 }
 
-pub(crate) fn reading(n: u64) -> Reading {
-    if n == 0 {
-        Reading::Rust
-    } else {
-        Reading::Savefile
+// None has the call that names none.
+pub(crate) fn reading(case: &Case<'_>, rank: usize) -> Option<Reading> {
+    match case.number(rank) {
+        0 => Some(Reading::Rust),
+        2 => None,
+        _ => Some(Reading::Savefile),
     }
+}
+
+pub(crate) fn settings(case: &Case<'_>) -> OusterSettings {
+    OusterSettings {
+        columns_per_packet: case.number(5) as usize,
+        pixels_per_column: case.number(6) as usize,
+        lidar_port: port(case, 7),
+    }
+}
+
+// Half of each channel's number.
+pub(crate) fn halves() -> [f32; 129] {
+    let mut altitudes = [0.0; 129];
+    let mut next: f32 = 0.0;
+    for altitude in altitudes.iter_mut() {
+        *altitude = next;
+        next += 0.5;
+    }
+    altitudes
+}
+
+// The first n elevations, or all of them.
+pub(crate) fn front(altitudes: &[f32], n: u64) -> &[f32] {
+    altitudes.get(..n as usize).unwrap_or(altitudes)
 }

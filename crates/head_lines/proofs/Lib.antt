@@ -1,3 +1,3 @@
--- The laws of the lines.
+-- The laws of a line's numbers.
 mod Decimal
 mod Lines

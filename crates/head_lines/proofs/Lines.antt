@@ -1,66 +1,20 @@
--- The bytes that code puts together are those of the line.
-use Prim.Native.Nat.{ℕ, ◌+◌, ◌-◌, ◌≤◌}
-use native.Mathlib.Nat.{zero-add}
-use native.Mathlib.Omega.{arith}
-use mathlib.Core.Path.{◌≡◌, refl, sym, ap, ◌∙◌}
-use mathlib.Core.List.{List, [], ◌∷◌, ◌++◌, append_assoc, append-nil}
-use lib.ListN.{length, take, length-append}
-use lib.Seq.{length-take-le}
-use borrow.Author.Tests.{eq-eqb, ne_eqb}
-use borrow.Rule.Slice.PartMut.{put_mid}
+-- The text that the library writes is the definition's, by its parts.
+use Rattle.std.proofs.Common.{ℕ, ◌^◌, ◌<◌, ◌≡◌, refl, sym, ap, [], ◌∷◌, ◌++◌, append_assoc, eq-eqb, ne_eqb}
+use Rattle.std.specs.Fmt.{decimal as written}
 use Rattle.answers.specs.declared.Refusal.{Refusal}
 use Rattle.answers.specs.Answer.{refusal_number, refusal_points}
-use Rattle.io.specs.Counts.{IsPrefixLen}
-use Rattle.points.specs.ReadInto.{over}
-use Rattle.points.proofs.Lists.{after, over_more}
-use Rattle.head_lines.specs.Appended.{Appended}
 use Rattle.head_lines.specs.HeadLines.{decimal, points_text, frames_text, refused_text, space, line_end, head_line, refusal_line}
+use Rattle.head_lines.proofs.Decimal.{decimal_is}
 
--- a part of the line as long as the text, lent to the copy and put back
-pub copied : (text old : List ℕ) (at : ℕ) {new : List ℕ} → new ≡ text → Appended text old at (put_mid at (at + length text - at) old new) (at + length text)
-unfolding over
-copied text old at e = let long : at + length text - at ≡ length text = omega arith in (refl, rw (e, long))
-
--- one text and then another after it
-pub both : (text more line : List ℕ) (at : ℕ) {line' line'' : List ℕ} {mid next : ℕ} → at ≤ length line → Appended text line at line' mid → Appended more line' mid line'' next
-    → Appended (text ++ more) line at line'' next
-both text more line at {mid = mid} h (e, f) (g, k) =
-    let front = take at line in
-    let long : length front ≡ at = length-take-le at line h in
-    let upto : length (front ++ text) ≡ mid = rw (length-append, long) (sym e) in
-    (g ∙ rw (e, length-append) (omega arith), k ∙ rw (f, after front text line at long, over_more (front ++ text) more line mid upto, append_assoc) (sym (after front (text ++ more) line at long)))
-
--- the text stands over the front of what the line held, and the next index is the one after it
-abbrev pub Begun : List ℕ → List ℕ → List ℕ → ℕ → Type 0
-Begun text old line next = (next ≡ length text) × (line ≡ over text old)
-
-module _ (old : List ℕ) {line' : List ℕ} {next : ℕ} where
-  pub first : (text : List ℕ) → Appended text old 0 line' next → Begun text old line' next
-  first text (e, f) = (e ∙ zero-add (length text), f)
-
-  pub then : {line : List ℕ} {at : ℕ} (text new : List ℕ) → Begun text old line at → Appended new line at line' next → Begun (text ++ new) old line' next
-  then {line} {at} text new (e, f) (g, h) = (g ∙ rw (e, length-append), h ∙ rw f (over_more text new old at (sym e)))
-
--- the next index counts bytes of the line
-pub counted : (text old : List ℕ) {line : List ℕ} {next : ℕ} → Begun text old line next → IsPrefixLen next line × Begun text old line next
-unfolding over
-counted text old {line} {next} (e, f) =
-    let within : next ≤ length line = rw (f, length-append) (omega arith) in
-    ((within, sym (length-take-le next line within)), (e, f))
-
--- the lines, by what code puts one after another
-pub head_is : (points frames : ℕ) → points_text ++ decimal points ++ (frames_text ++ decimal frames) ++ line_end ∷ [] ≡ head_line points frames
+pub head_is : (points frames : ℕ) → points < 2 ^ 64 → frames < 2 ^ 64 → points_text ++ (written points ++ (frames_text ++ (written frames ++ line_end ∷ []))) ≡ head_line points frames
 unfolding head_line
-head_is points frames = ap (λ (t : List ℕ). t ++ line_end ∷ []) (sym (append_assoc (points_text ++ decimal points) frames_text (decimal frames)))
+head_is points frames h k = rw (decimal_is points h, decimal_is frames k) (simp append_assoc refl)
 
-module _ (refusal : Refusal) where
-  abbrev pub refused : List ℕ
-  refused = refused_text ++ decimal (refusal_number refusal)
-
-  pub no_room_is : refusal_number refusal ≡ 10 → refused ++ (space ∷ decimal (refusal_points refusal)) ++ line_end ∷ [] ≡ refusal_line refusal
+module _ (refusal : Refusal) (number : ℕ) (is : number ≡ refusal_number refusal) (h : number < 2 ^ 64) where
+  pub no_room_is : (needed : ℕ) → needed < 2 ^ 64 → refusal_number refusal ≡ 10 → needed ≡ refusal_points refusal → refused_text ++ (written number ++ (space ∷ (written needed ++ line_end ∷ []))) ≡ refusal_line refusal
   unfolding refusal_line
-  no_room_is e = rw (eq-eqb (refusal_number refusal) 10 e)
+  no_room_is needed k e n = rw (decimal_is number h, decimal_is needed k, is, n, eq-eqb (refusal_number refusal) 10 e) (ap (λ t. refused_text ++ t) (sym (append_assoc (decimal (refusal_number refusal)) (space ∷ decimal (refusal_points refusal)) (line_end ∷ []))))
 
-  pub other_is : (refusal_number refusal ≡ 10 → ⊥) → refused ++ line_end ∷ [] ≡ refusal_line refusal
+  pub other_is : (refusal_number refusal ≡ 10 → ⊥) → refused_text ++ (written number ++ line_end ∷ []) ≡ refusal_line refusal
   unfolding refusal_line
-  other_is e = rw (ne_eqb (refusal_number refusal) 10 e) (ap (λ (t : List ℕ). t ++ line_end ∷ []) (sym (append-nil refused)))
+  other_is e = rw (decimal_is number h, is, ne_eqb (refusal_number refusal) 10 e) (ap (λ t. refused_text ++ t) (sym (append_assoc (decimal (refusal_number refusal)) [] (line_end ∷ []))))

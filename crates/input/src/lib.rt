@@ -1,49 +1,43 @@
-// Reads an input into a buffer, and tells how that ended, from what the system answered.
+// Reads an input whole into a buffer, or tells why it could not, from what the system answered.
 
 #![tactic(auto)]
 
-ghost use Rattle.std.specs.Prelude.{◌≡◌, ◌≤◌, length};
-ghost use Rattle.input.specs.Ended.{answer, ended};
+ghost use Rattle.std.specs.Prelude.{◌≤◌, length, take, IfOk};
+ghost use Rattle.std.specs.Io.KnownBytes.{Consumes, IsAtEnd};
+ghost use Rattle.input.specs.Ended.{Ended};
 
 use std::io;
-use std::io::Read;
+use std::io::{ErrorKind, Read};
 
-// How reading ended.
-#[derive(Clone, Copy)]
-pub enum Ended {
-    // The buffer has all of the input.
-    Whole,
+// Why a buffer has not the whole of an input.
+#[derive(Clone, Copy, Debug)]
+pub enum Unread {
     // The input goes on after the buffer's end.
     TooLong,
     // A read failed, or told an end too early, so that the buffer may have a part of the input only.
-    Failed,
+    Failed(io::Error),
 }
 
-impl Ended {
-    // `read_full` stops alike where the input ends and where a read fails, and answers the `len` bytes
-    // that a buffer of `room` then has. What one read more answers tells the two apart.
-    pub fn of(len: usize, room: usize, more: isize) -> Self
-        ensures { result ≡ ended len room more }
-    {
-        if more < 0 {
-            return Ended::Failed;
-        }
-        if 0 < more {
-            return if len < room {
-                Ended::Failed
-            } else {
-                Ended::TooLong
-            };
-        }
-        Ended::Whole
-    }
+// Reads all of an input, and answers how many bytes it put at the front of buf.
+pub fn read_whole<R: Read>(reader: &mut R, buf: &mut [u8]) -> Result<usize, Unread>
+    ensures within { IfOk result (λ len. len ≤ length buf.new) }
+    ensures bytes { IfOk result (λ len. Consumes (R.remaining reader.old) (R.remaining reader.new) (take len buf.new)) }
+    ensures end { IfOk result (λ _. IsAtEnd (R.remaining reader.new)) }
+{
+    let len = read_full(reader, buf);
+    let mut next = [0u8; 1];
+    let more = reader.read(&mut next);
+    ended(len, buf.len(), more)?;
+    Ok(len)
 }
 
 // Reads until buf is full, the input ends or a read fails, and answers how many bytes it put at the
 // front of buf.
 pub fn read_full<R: Read>(reader: &mut R, buf: &mut [u8]) -> usize
-    ensures { result ≤ length buf.new }
+    ensures within { result ≤ length buf.new }
+    ensures bytes { Consumes (R.remaining reader.old) (R.remaining reader.new) (take result buf.new) }
 {
+    // No index: each read says how far it came. The buffer is fixed memory, and its length is the answer.
     let mut done: usize = 0;
     while done < buf.len() {
         let n = read(reader, &mut buf[done..]);
@@ -55,23 +49,26 @@ pub fn read_full<R: Read>(reader: &mut R, buf: &mut [u8]) -> usize
     done
 }
 
-// One read: how many bytes it put at the front of buf, and 0 where it failed.
-fn read<R: Read>(reader: &mut R, buf: &mut [u8]) -> usize
-    ensures { result ≤ length buf.new }
+// `read_full` stops alike where the input ends and where a read fails, and answers the `len` bytes
+// that a buffer of `room` then has. What one read more answers tells the two apart.
+pub fn ended(len: usize, room: usize, more: io::Result<usize>) -> Result<(), Unread>
+    ensures { Ended len room more result }
 {
-    match reader.read(buf) {
-        Ok(n) => n,
-        Err(_) => 0,
+    match more {
+        Ok(0) => Ok(()),
+        Ok(_) => Err(if len < room {
+            Unread::Failed(io::Error::from(ErrorKind::Interrupted))
+        } else {
+            Unread::TooLong
+        }),
+        Err(error) => Err(Unread::Failed(error)),
     }
 }
 
-// What a read answered, as `Ended::of` takes it.
-pub fn answered(more: &io::Result<usize>) -> isize
-    ensures { result ≡ answer more.now }
+// One read: how many bytes it put at the front of buf, and 0 where it failed.
+fn read<R: Read>(reader: &mut R, buf: &mut [u8]) -> usize
+    ensures within { result ≤ length buf.new }
+    ensures bytes { Consumes (R.remaining reader.old) (R.remaining reader.new) (take result buf.new) }
 {
-    match more {
-        Ok(0) => 0,
-        Ok(_) => 1,
-        Err(_) => -1,
-    }
+    reader.read(buf).unwrap_or(0)
 }

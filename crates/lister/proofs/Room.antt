@@ -5,9 +5,10 @@ use mathlib.Core.Bool.{Bool, true, false}
 use mathlib.Core.Path.{◌≡◌, refl, sym, ap, ◌∙◌}
 use mathlib.Core.List.{List, [], ◌∷◌, ◌++◌}
 use lib.ListN.{length}
-use Rattle.answers.specs.declared.Answer.{Answer}
-use Rattle.answers.specs.declared.Answer.TheVariants.{Read}
-use Rattle.points.specs.Point.{PointOf}
+use Rattle.std.specs.Prelude.{Result, Ok}
+use Rattle.answers.specs.declared.Counts.{Counts}
+use Rattle.answers.specs.declared.Refusal.{Refusal}
+use Rattle.points.specs.declared.point.Point.{Point}
 use Rattle.points.specs.ReadInto.{Check, first_refusal, number_given, outcome, outcome_of, read_into, answered}
 use Rattle.points.proofs.ReadInto.{Numbered, first_passes, first_decides, has_room}
 use Rattle.livox_form.specs.declared.Form.{Form}
@@ -26,7 +27,7 @@ last_false cs r b each e = by_front (first_refusal cs) refl where
   by_front zero f = alone r b (sym (first_passes cs ((suc r, b) ∷ []) each f) ∙ e)
   by_front (suc n) f = let never = sym (first_decides cs ((suc r, b) ∷ []) n f) ∙ e in absurd (omega arith)
 
-module _ {A : Type 0} (checks : List Check) (points : List (PointOf A)) (frames : ℕ) (ns : List A) (ks : List ℕ) {p f : ℕ} {ns' : List A} {ks' : List ℕ} where
+module _ {A : Type 0} (checks : List Check) (points : List (Point A)) (frames : ℕ) (ns : List A) (ks : List ℕ) {p f : ℕ} {ns' : List A} {ks' : List ℕ} where
   by_number : (n : ℕ) → Numbered checks → number_given checks (length points) (length ns) (length ks) ≡ n → outcome_of n points frames ns ks ≡ outcome 0 p f ns' ks' → p ≤ length ks
   unfolding number_given
   by_number zero each e g =
@@ -39,7 +40,7 @@ module _ {A : Type 0} (checks : List Check) (points : List (PointOf A)) (frames 
   unfolding read_into
   had_room each e = by_number _ each refl e
 
-pub points_fit : (form : Form) (bytes ns ks : List ℕ) {ns' ks' : List ℕ} {answer : Answer} (points frames : ℕ) → answer ≡ Read points frames
-    → answered answer ns' ks' ≡ read_livox_bits form bytes ns ks → points ≤ length ks
-points_fit form bytes ns ks {ns'} {ks'} points frames e f =
-    had_room _ _ _ ns ks (numbered form bytes) (sym f ∙ ap (λ (a : Answer). answered a ns' ks') e)
+pub points_fit : (form : Form) (bytes ns ks : List ℕ) {ns' ks' : List ℕ} {answer : Result Counts Refusal} (counts : Counts) → answer ≡ Ok counts
+    → answered answer ns' ks' ≡ read_livox_bits form bytes ns ks → counts.points ≤ length ks
+points_fit form bytes ns ks {ns'} {ks'} counts e f =
+    had_room _ _ _ ns ks (numbered form bytes) (sym f ∙ ap (λ (a : Result Counts Refusal). answered a ns' ks') e)

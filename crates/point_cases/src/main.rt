@@ -13,70 +13,70 @@
 
 #![tactic(auto)]
 
-mod place_calls;
-mod rank_calls;
+ghost use Rattle.std.specs.Prelude.{◌≤◌};
+
+mod readings;
 mod show;
 
-use input::Ended;
+use case_lists::Calls;
+use case_words::Case;
+use console::Console;
+use lidar::{Belt, BeltCount, BeltDatum, Form, PulseLength, Refusal, StoredReading};
 use std::io;
-use std::io::{ErrorKind, Read};
-use std::rt::Runtime;
+use std::io::Write;
 
 fn main(rt: HostRuntime) {
-    let mut reader = rt.stdin();
-    let mut space = case_words::list_buffer();
-    let len = input::read_full(&mut reader, &mut space);
-    let mut next = [0u8; 1];
-    let more = reader.read(&mut next);
-    match Ended::of(len, space.len(), input::answered(&more)) {
-        Ended::Whole => run(&rt, &space[..len]),
-        Ended::TooLong => {
-            show::write(&rt, b"too long\n");
+    let mut out = Console {
+        rt: &rt,
+        program: "point_cases",
+        out: io::writer(&rt),
+    };
+    PointCalls.run(&mut out, &mut rt.stdin());
+}
+
+struct PointCalls;
+
+impl Calls for PointCalls {
+    fn tell<R: Eprint, W: Write>(&self, out: &mut Console<'_, R, W>, case: &Case<'_>, data: &[u8]) {
+        match case.word(1) {
+            b"lvx-rank" => show::stored(out, stored_in(case, Form::Lvx, data)),
+            b"lvx2-rank" => show::stored(out, stored_in(case, Form::Lvx2, data)),
+            b"place-lvx" => show::placed(out, placed_in(case, Form::Lvx, data)),
+            b"place-lvx2" => show::placed(out, placed_in(case, Form::Lvx2, data)),
+            b"millimetres" => show::placed(out, placed(case, readings::millimetres(data))),
+            b"ten-millimetres" => show::placed(out, placed(case, readings::ten_millimetres(data))),
+            b"spherical" => show::placed(out, placed(case, readings::SPHERICAL)),
+            b"float" => show::placed(out, placed(case, readings::FLOAT)),
+            _ => {
+                out.write(b" no such call");
+            }
         }
-        Ended::Failed => show::fail(&rt, "point_cases: standard input", reason(more)),
     }
 }
 
-// Why reading failed. Where one more read gave bytes, the one before it was interrupted.
-fn reason(more: io::Result<usize>) -> io::Error {
-    match more {
-        Ok(_) => io::Error::from(ErrorKind::Interrupted),
-        Err(error) => error,
+fn stored_in(case: &Case<'_>, form: Form, data: &[u8]) -> Result<StoredReading, Refusal> {
+    lidar::stored_reading(form, data, case.number(3) as usize)
+}
+
+fn placed_in(case: &Case<'_>, form: Form, data: &[u8]) -> Result<f32, Refusal> {
+    lidar::place_in_file(form, data, case.number(3) as usize, belt(case, 4))
+}
+
+fn placed(case: &Case<'_>, reading: StoredReading) -> Result<f32, Refusal> {
+    lidar::place(reading, belt(case, 3))
+}
+
+// The belt, from its three numbers on.
+fn belt(case: &Case<'_>, rank: usize) -> Belt
+    requires { rank ≤ 4 }
+{
+    Belt {
+        count: BeltCount(low(case.number(rank))),
+        datum: BeltDatum(low(case.number(rank + 1))),
+        pulse_length: PulseLength(low(case.number(rank + 2))),
     }
 }
 
-// Goes on while what is told can be written.
-fn run<R: Runtime>(rt: &R, text: &[u8]) {
-    let mut at: usize = 0;
-    while at < text.len() {
-        let end = case_words::find(text, at, b'\n');
-        if !case(rt, &text[at..end]) {
-            return;
-        }
-        at = end + 1;
-    }
-}
-
-fn case<R: Runtime>(rt: &R, line: &[u8]) -> bool {
-    let colon = case_words::find(line, 0, b':');
-    if !show::write(rt, &line[0..colon]) {
-        return false;
-    }
-    show::write(rt, b":");
-    call(rt, &line[colon..line.len()]);
-    show::write(rt, b"\n")
-}
-
-// Words are counted from the colon, which is word 0: the call is word 1, and the file's length word 2.
-fn call<R: Runtime>(rt: &R, text: &[u8]) {
-    let mut space = [0u8; 32768];
-    case_words::lay(text, &mut space);
-    let data = case_words::front(&space, case_words::number(text, 2));
-    if !tell(rt, case_words::word(text, 1), text, data) {
-        show::write(rt, b" no such call");
-    }
-}
-
-fn tell<R: Runtime>(rt: &R, name: &[u8], text: &[u8], data: &[u8]) -> bool {
-    rank_calls::tell(rt, name, text, data) || place_calls::tell(rt, name, text, data)
+fn low(n: u64) -> u32 {
+    (n % 4294967296) as u32
 }

@@ -1,122 +1,62 @@
 // What a call tells, as text.
 
-use case_words::Pattern;
-use lidar::{Placed, StoredAnswer, StoredReading};
-use std::io;
-use std::rt::Runtime;
+use case_words::{Number, Told};
+use console::Console;
+use lidar::{Refusal, StoredReading};
+use std::io::Write;
 
 // A stored reading: its type and its three numbers as the file has them, each as 32 bits.
-pub(crate) fn stored<R: Runtime>(rt: &R, answer: StoredAnswer) {
+pub(crate) fn stored<R: Eprint, W: Write>(
+    out: &mut Console<'_, R, W>,
+    answer: Result<StoredReading, Refusal>,
+) {
     match answer {
-        StoredAnswer::Reading(reading) => stored_reading(rt, reading),
-        StoredAnswer::Refused(refusal) => write_number(rt, refusal.number() as u64),
+        Ok(reading) => stored_reading(out, reading),
+        Err(refusal) => {
+            out.print_next(refusal.number());
+        }
     }
 }
 
-fn stored_reading<R: Runtime>(rt: &R, reading: StoredReading) {
-    match reading {
-        StoredReading::Millimetres(x, y, z) => {
-            write(rt, b" millimetres");
-            write_three(rt, word(x.0), word(y.0), word(z.0));
-        }
-        StoredReading::TenMillimetres(x, y, z) => {
-            write(rt, b" ten millimetres");
-            write_three(rt, word(widen(x.0)), word(widen(y.0)), word(widen(z.0)));
-        }
+fn stored_reading<R: Eprint, W: Write>(out: &mut Console<'_, R, W>, reading: StoredReading) {
+    let (name, numbers) = match reading {
+        StoredReading::Millimetres(x, y, z) => (" millimetres", [x.0, y.0, z.0].map(bits)),
+        StoredReading::TenMillimetres(x, y, z) => (
+            " ten millimetres",
+            [x.0, y.0, z.0].map(|n| bits(i32::from(n))),
+        ),
         StoredReading::Spherical {
             depth,
             zenith,
             azimuth,
-        } => {
-            write(rt, b" spherical");
-            write_three(rt, depth.0, zenith.0 as u32, azimuth.0 as u32);
-        }
-        StoredReading::Float(x, y, z) => {
-            write(rt, b" float");
-            write_three(rt, x, y, z);
-        }
+        } => (
+            " spherical",
+            [depth.0, u32::from(zenith.0), u32::from(azimuth.0)],
+        ),
+        StoredReading::Float(x, y, z) => (" float", [x, y, z]),
+    };
+    out.write(name.as_bytes());
+    for number in numbers {
+        out.print_next(Told(Some(number)));
     }
 }
 
 // The number and, where it is 0, the distance.
-pub(crate) fn placed<R: Runtime>(rt: &R, placed: Placed) {
+pub(crate) fn placed<R: Eprint, W: Write>(
+    out: &mut Console<'_, R, W>,
+    placed: Result<f32, Refusal>,
+) {
     match placed {
-        Placed::Metres(x) => {
-            write_number(rt, 0);
-            write_value(rt, x);
+        Ok(x) => {
+            out.print_next(0u8);
+            out.print_next(Told(x.pattern()));
         }
-        Placed::Refused(refusal) => write_number(rt, refusal.number() as u64),
-    }
-}
-
-// The 32 bits of a number, by its two's complement.
-fn word(n: i32) -> u32 {
-    half(n >> 16) as u32 * 65536 + half(n) as u32
-}
-
-fn half(n: i32) -> u16 {
-    (n & 65535) as u16
-}
-
-fn widen(n: i16) -> i32 {
-    n as i32
-}
-
-fn write_three<R: Runtime>(rt: &R, x: u32, y: u32, z: u32) {
-    write_pattern(rt, x);
-    write_pattern(rt, y);
-    write_pattern(rt, z);
-}
-
-fn write_value<R: Runtime>(rt: &R, x: f32) {
-    match Pattern::of(x) {
-        Pattern::Bits(bits) => write_pattern(rt, bits),
-        Pattern::Nan => {
-            write(rt, b" nan");
+        Err(refusal) => {
+            out.print_next(refusal.number());
         }
     }
 }
 
-fn write_pattern<R: Runtime>(rt: &R, bits: u32) {
-    write(rt, b" ");
-    told(rt, print!(rt; "{bits:08x}"));
-}
-
-fn write_number<R: Runtime>(rt: &R, n: u64) {
-    write(rt, b" ");
-    told(rt, print!(rt; "{n}"));
-}
-
-pub(crate) fn write<R: Runtime>(rt: &R, text: &[u8]) -> bool {
-    told(rt, rt.write_all(text))
-}
-
-// Whether all was written. If not, standard error says why.
-fn told<R: Runtime>(rt: &R, written: io::Result<()>) -> bool {
-    match written {
-        Ok(()) => true,
-        Err(error) => {
-            fail(rt, "point_cases: standard output", error);
-            false
-        }
-    }
-}
-
-// Says on standard error what failed, and why. Where that fails, too, nothing is left to be said.
-pub(crate) fn fail<R: Runtime>(rt: &R, what: &str, error: io::Error) {
-    let _ = say(rt, what, error);
-}
-
-fn say<R: Runtime>(rt: &R, what: &str, error: io::Error) -> io::Result<()> {
-    let text = format!(in rt.alloc(); "{error}")?;
-    let words = words(text.as_str());
-    eprintln!(rt; "{what}: {words}")
-}
-
-// The system's words for an error, without the number that follows them.
-fn words(text: &str) -> &str {
-    match text.split_once(" (os error ") {
-        Some((words, _)) => words,
-        None => text,
-    }
+fn bits(n: i32) -> u32 {
+    n.cast_unsigned()
 }

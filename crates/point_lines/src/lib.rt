@@ -5,7 +5,8 @@
 ghost use Rattle.std.specs.Prelude.{◌≡◌, ◌/◌, ◌%◌, ◌<◌};
 ghost use Rattle.point_lines.specs.PointLine.{glyph, hex_digits, letter, point_line};
 
-// The line of a point: c or p by its kind, and its three numbers' patterns.
+// The line of a point: c or p by its kind, and its three numbers' patterns. It is bytes and has no
+// `Display`, since std's laws on what `{x:08x}` writes do not lead to the digits of the definition.
 #[tactic(auto, unfolding(crate::specs::PointLine::point_line, crate::specs::PointLine::hex_digits))]
 pub fn point_line(kind: u8, x: u32, y: u32, z: u32) -> [u8; 29]
     ensures { result ≡ point_line kind x y z }

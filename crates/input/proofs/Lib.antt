@@ -1,0 +1,2 @@
+-- What several reads consume.
+mod Consumed
