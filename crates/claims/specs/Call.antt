@@ -4,7 +4,7 @@ use mathlib.Core.List.{List, [], ◌∷◌, map, flat_map}
 use Rattle.std.specs.Float.{binary32}
 use Rattle.std.specs.Float.Ieee.{of_bits, to_bits, round, of_int, add, sub, mul, div, lt, le}
 use Rattle.fields.specs.Number.{unsigned_at}
-use Rattle.signed_fields.specs.Signed.{signed}
+use Rattle.fields.specs.Signed.{signed}
 use Rattle.units.specs.Conversions.{metres_of_two_millimetres, metres_of_millimetres, degrees_by_division}
 use Rattle.points.specs.ReadInto.{Outcome, too_long, first_refusal, number_given, map_outcome, over, read_into}
 use Rattle.points.specs.Tabulate.{tabulate, gather}
@@ -28,7 +28,6 @@ use Rattle.livox_form.specs.declared.Form.TheVariants.{Lvx, Lvx2}
 use Rattle.livox_header.specs.Header
 use Rattle.livox_file.specs.Livox
 use Rattle.placing.specs.Placing
-use Rattle.placing_in_file.specs.InFile
 
 -- How a reader of float records lays numbers: as values into a slice of f32, or as their patterns into a slice of u32.
 pub data LaidBy : Type 0 where
@@ -83,7 +82,7 @@ placed_as micrometres (Placing.refused number) = placed number micrometres 0
 
 -- The unfolding line names all that these definitions compute by, so that a proof unfolds `tell` alone.
 unfoldable pub tell : Call → Told
-unfolding flat_map of_bits to_bits unsigned_at over first_refusal read_into Kitti.checks Kitti.points Savefile.format_of Savefile.checks ether_type ip_start version ihl protocol udp_start destination_port payload_start payload_len verdict opening places_from Payloads.payloads Payloads.place_of Savefile.file_checks number_given no_payload_check points_in tabulate gather round of_int add sub mul div lt le metres_of_two_millimetres degrees_by_division half_step_between turned vlp16_vert hdl32e_vert linear linear_elevations Packet.packet_points Velodyne.checks signed metres_of_millimetres Header.checks Livox.points Livox.point_bits Livox.frames Placing.pulses Placing.exact_of Placing.metres Placing.checks_of Placing.place
+unfolding flat_map of_bits to_bits unsigned_at over first_refusal read_into Kitti.checks Kitti.points_as Savefile.format_of Savefile.checks ether_type ip_start version ihl protocol udp_start destination_port payload_start payload_len verdict opening places_from Payloads.payloads Payloads.place_of Savefile.file_checks number_given no_payload_check points_in tabulate gather round of_int add sub mul div lt le metres_of_two_millimetres degrees_by_division half_step_between turned vlp16_vert hdl32e_vert linear linear_elevations Packet.packet_points Velodyne.checks signed metres_of_millimetres Header.checks Livox.points Livox.point_bits Livox.frames Placing.pulses Placing.exact_of Placing.metres Placing.checks_of Placing.place
 tell (kitti by_value bytes numbers kinds) = reading (map_outcome (to_bits binary32) (Kitti.read_kitti bytes (map (of_bits binary32) numbers) kinds))
 tell (kitti by_pattern bytes numbers kinds) = reading (Kitti.read_kitti_bits bytes numbers kinds)
 tell (lvx by_value bytes numbers kinds) = reading (map_outcome (to_bits binary32) (Livox.read_livox Lvx bytes (map (of_bits binary32) numbers) kinds))

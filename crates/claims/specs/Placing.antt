@@ -1,7 +1,7 @@
 -- The worked cases of placing: 1,500 mm with datum 4,294,967,000, count 704 and pulses of 250 micrometres; 16,000 mm
 -- and no pulses; one pulse of 1 micrometre more. Beside them, a point of a file. A row tells the number, the exact
 -- micrometres, and the distance by its pattern.
-use Rattle.std.specs.Prelude.{ℕ, List, [], ◌∷◌, ℤ, pos, neg_ℤ}
+use Rattle.std.specs.Prelude.{List, [], ◌∷◌, ℤ, pos, neg_ℤ}
 use Rattle.livox_form.specs.declared.Form.TheVariants.{Lvx2}
 use Rattle.livox_stored.specs.Stored.{millimetres, ten_millimetres, spherical}
 use Rattle.placing.specs.Placing.{Asked, by_reading}
