@@ -1,3 +1,2 @@
--- The worked cases hold, and a law of what code makes of a reader's answer.
+-- The worked cases hold.
 pub mod Cases
-pub mod Fields

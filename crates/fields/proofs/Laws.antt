@@ -64,16 +64,16 @@ module _ {A : Type 0} (wrap : ℕ → A) (o : ByteOrder) (k : ℕ) (s : List ℕ
   unfolding field
   field_outside h = rw (lt-leb (off + k) (length s) h)
 
--- What code makes of the bytes or the number that it finds, if it finds any, is the field.
+-- What code makes of the bytes that it finds, if it finds any, is the field.
 made : {A B : Type 0} (make : A → B) (b : Bool) (x : A) {found : Option A} → found ≡ (if b then Some x else None) → option_map make found ≡ (if b then Some (make x) else None)
 made make true x e = ap (option_map make) e
 made make false x e = ap (option_map make) e
 
-module _ {A : Type 0} (wrap : ℕ → A) (o : ByteOrder) (k : ℕ) (s : List ℕ) (off : ℕ) where
-  pub of_bytes : {found : Option (List ℕ)} → found ≡ (if nat_le (off + k) (length s) then Some (take k (drop off s)) else None) → option_map (λ bs. wrap (value (least_first o bs))) found ≡ field wrap o k s off
-  unfolding field unsigned_at
-  of_bytes e = made (λ bs. wrap (value (least_first o bs))) (nat_le (off + k) (length s)) _ e
+pub of_bytes : {A : Type 0} (wrap : ℕ → A) (o : ByteOrder) (k : ℕ) (s : List ℕ) (off : ℕ) {found : Option (List ℕ)} → found ≡ (if nat_le (off + k) (length s) then Some (take k (drop off s)) else None) → option_map (λ bs. wrap (value (least_first o bs))) found ≡ field wrap o k s off
+unfolding field unsigned_at
+of_bytes wrap o k s off e = made (λ bs. wrap (value (least_first o bs))) (nat_le (off + k) (length s)) _ e
 
-  pub of_number : {found : Option ℕ} → found ≡ field (λ n. n) o k s off → option_map wrap found ≡ field wrap o k s off
-  unfolding field
-  of_number e = made wrap (nat_le (off + k) (length s)) _ e
+-- What code makes of a reader's answer is a field that is wrapped anew.
+pub mapped : {A B : Type 0} (f : A → B) (wrap : ℕ → A) (o : ByteOrder) (k : ℕ) (s : List ℕ) (off : ℕ) {answer : Option A} → answer ≡ field wrap o k s off → option_map f answer ≡ field (λ n. f (wrap n)) o k s off
+unfolding field
+mapped f wrap o k s off told = made f (nat_le (off + k) (length s)) (wrap (unsigned_at o k s off)) told

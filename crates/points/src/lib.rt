@@ -2,9 +2,11 @@
 
 #![tactic(auto)]
 
+mod data;
 mod lay;
 mod point;
 
 pub use answers::{Counts, Refusal};
-pub use lay::{MAX_DATA_LEN, check_len, check_room, lacks_room, lay_point};
+pub use data::{MAX_DATA_LEN, ShortData, check_len};
+pub use lay::{check_room, lacks_room, lay_point};
 pub use point::Point;
