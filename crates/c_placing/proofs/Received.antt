@@ -1,8 +1,5 @@
 -- Demand 3 of what a caller in C receives: it is what was placed, since no refusal has the number 0 (`each_case`). Assumes nothing.
-use Prim.Native.Nat.{ℕ}
-use mathlib.Core.Path.{◌≡◌, refl, sym, ap, subst, ◌∙◌}
-use Rattle.std.proofs.Common.{Option}
-use lib.Ieee.{Float}
+use Rattle.std.proofs.Common.{Option, ℕ, ◌≡◌, refl, sym, ap, subst, ◌∙◌, Float}
 use Rattle.points.proofs.ReadInto.{Numbered}
 use Rattle.livox_stored.specs.Stored.{Stored}
 use Rattle.placing.specs.Placing.{Asked, place}

@@ -1,7 +1,6 @@
 -- How C names the form of a file, and is told a stored reading: a number for its kind, and its three numbers. Without
 -- a reading all are 0.
-use Rattle.std.specs.Prelude.{ℕ, Bool, true, false, ℤ, pos}
-use Rattle.std.specs.Prelude.{Option, None, Some}
+use Rattle.std.specs.Prelude.{ℕ, Bool, true, false, ℤ, pos, Option, None, Some}
 use Rattle.livox_form.specs.declared.Form.{Form}
 use Rattle.livox_form.specs.declared.Form.TheVariants.{Lvx, Lvx2}
 use Rattle.livox_stored.specs.Stored.{Stored, millimetres, ten_millimetres, spherical, float}

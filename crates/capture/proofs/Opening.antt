@@ -1,6 +1,5 @@
 -- Opening a capture by the file header's answer, and what an answer says of the checks. Assumes nothing.
-use Rattle.std.specs.Prelude.{ℕ, ◌≡◌, Bool, true, false, cond, List, [], ◌∷◌, map, eqb}
-use Rattle.std.proofs.Common.{refl, sym, ap, ◌∙◌, arith}
+use Rattle.std.proofs.Common.{refl, sym, ap, ◌∙◌, arith, ℕ, ◌≡◌, Bool, true, false, cond, List, [], ◌∷◌, map, eqb}
 use Rattle.points.specs.ReadInto.{first_refusal}
 use Rattle.record_rule.specs.declared.reading.Reading.{Reading}
 use Rattle.savefile.specs.declared.RecordFormat.{RecordFormat}

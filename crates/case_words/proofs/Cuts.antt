@@ -1,7 +1,5 @@
 -- The first piece of a text reaches to the first byte that ends one, and the other pieces are those of what follows it.
-use Rattle.std.proofs.Common.{ℕ, zero, suc, ◌≤◌, ◌≡◌, ◌≢◌, refl, Bool, true, false, List, [], ◌∷◌, length, take, drop, get_or, ap, ◌∙◌, add-one, one-add, ltb-false, arith}
-use Rattle.std.specs.Prelude.{◌==◌}
-use Rattle.std.specs.Prelude.{not, nat_lt, Option, Some, None, slice_get, unwrap_or, position}
+use Rattle.std.proofs.Common.{ℕ, zero, suc, ◌≤◌, ◌≡◌, ◌≢◌, refl, Bool, true, false, List, [], ◌∷◌, length, take, drop, get_or, ap, ◌∙◌, add-one, one-add, ltb-false, arith, ◌==◌, not, nat_lt, Option, Some, None, slice_get, unwrap_or, position}
 use Rattle.std.specs.List.{position_or_len}
 use Rattle.std.proofs.lemmas.List.{drop-drop}
 use Rattle.std.specs.Option.{option_map}

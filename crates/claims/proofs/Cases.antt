@@ -1,7 +1,7 @@
 -- Each worked case holds by the definitions: antt computes what the calls of all rows tell, and finds what the rows say. Two functions that agree over a
 -- list agree at each member of it, so that a new row needs no proof. Assumes nothing.
-use mathlib.Core.Path.{◌≡◌, refl}
-use mathlib.Core.List.{List, map, Memᴰ}
+use Rattle.std.proofs.Common.{◌≡◌, refl, List, map}
+use mathlib.Core.List.{Memᴰ}
 use Rattle.claims.specs.Call.{tell}
 use Rattle.claims.specs.Row.{Row}
 use Rattle.claims.specs.Cases.{rows}

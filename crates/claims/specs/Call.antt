@@ -1,6 +1,6 @@
 -- The calls of which there are worked cases, and what each tells by the definitions that its contract cites.
-use Rattle.std.specs.Prelude.{ℕ, ℤ}
-use mathlib.Core.List.{List, [], ◌∷◌, map, flat_map}
+use Rattle.std.specs.Prelude.{ℕ, ℤ, List, [], ◌∷◌, map}
+use mathlib.Core.List.{flat_map}
 use Rattle.std.specs.Float.{binary32}
 use Rattle.std.specs.Float.Ieee.{of_bits, to_bits, round, of_int, add, sub, mul, div, lt, le}
 use Rattle.fields.specs.Number.{unsigned_at}

@@ -1,9 +1,8 @@
 -- What std's `from_le_bytes` makes of bytes is their `value`, for any count of them: by induction over how many are summed up.
 -- Assumes nothing.
-use Rattle.std.proofs.Common.{◌≡◌, ℕ, zero, suc, ◌+◌, ◌*◌, ◌^◌, ◌<◌, List, length, get_or, take, drop, nat_le, if◌then◌else◌, Some, None, arith, ◌∙◌, ap}
+use Rattle.std.proofs.Common.{◌≡◌, ℕ, zero, suc, ◌+◌, ◌*◌, ◌^◌, ◌<◌, List, length, get_or, take, drop, nat_le, if◌then◌else◌, Some, None, arith, ◌∙◌, ap, length-take-le, take_all}
 use Rattle.std.specs.Int.{sum_through, byte_worth}
 use Rattle.std.proofs.Math.Seq.{take-suc}
-use lib.Seq.{length-take-le, take_all}
 use Rattle.fields.specs.declared.ByteOrder.{ByteOrder}
 use Rattle.fields.specs.Number.{value, least_first, field}
 use Rattle.fields.proofs.Laws.{value-append, of_bytes}

@@ -1,11 +1,10 @@
 -- std's `cast_signed` is two's complement, at any width: below the middle a number stands for itself, and from there on for
 -- n - 2 ^ bits. Assumes nothing.
-use Rattle.std.proofs.Common.{◌≡◌, ℕ, suc, ◌+◌, ◌-◌, ◌^◌, ◌≤◌, ◌<◌, ◌∙◌, ap, arith, to_z, inl, inr}
+use Rattle.std.proofs.Common.{◌≡◌, ℕ, suc, ◌+◌, ◌-◌, ◌^◌, ◌≤◌, ◌<◌, ◌∙◌, ap, arith, to_z, inl, inr, lt-ltb, le-ltb}
 use Rattle.std.specs.Int.{Width}
 use Rattle.std.proofs.Math.Facts.{to_z-neg}
 use Rattle.std.proofs.lemmas.Bool.{cases_lt}
 use Rattle.std.proofs.lemmas.Int.{to_z_pos}
-use borrow.Author.Tests.{lt-ltb, le-ltb}
 use mir.Val.{bits, hbits}
 use Rattle.fields.specs.Signed.{signed}
 

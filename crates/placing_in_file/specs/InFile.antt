@@ -1,8 +1,6 @@
 -- What is asked with a form, a file and a rank: the file's checks, and the micrometres along the belt of the point of
 -- that rank, if it is a whole-millimetre point.
-use Rattle.std.specs.Prelude.{ℕ, List, ℤ}
-use Rattle.std.specs.Prelude.{Option, None, Some}
-use Rattle.std.specs.Prelude.{slice_get}
+use Rattle.std.specs.Prelude.{ℕ, List, ℤ, Option, None, Some, slice_get}
 use Rattle.livox_form.specs.declared.Form.{Form}
 use Rattle.livox_header.specs.Header.{checks}
 use Rattle.livox_stored.specs.Stored.{Stored}

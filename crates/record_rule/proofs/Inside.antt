@@ -1,10 +1,5 @@
 -- Records that lie inside the data, wherever they come from. Assumes nothing.
-use Prim.Native.Nat.{ℕ, ◌≤◌}
-use native.Mathlib.Omega.{arith}
-use mathlib.Core.Path.{◌≡◌}
-use mathlib.Core.Logic.{◌⊎◌, inl, inr}
-use mathlib.Core.List.{List, [], ◌∷◌}
-use lib.ListN.{length, length-take, length-drop}
+use Rattle.std.proofs.Common.{ℕ, ◌≤◌, arith, ◌≡◌, ◌⊎◌, inl, inr, List, [], ◌∷◌, length, length-take, length-drop}
 use Rattle.record_rule.specs.declared.Record.{Record}
 use Rattle.record_rule.specs.Captured.{record_bytes, record_end}
 

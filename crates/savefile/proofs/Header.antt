@@ -1,6 +1,5 @@
 -- The file header, case by case: the checks of its length, then what the magic says (`by_magic`). Assumes nothing.
-use Rattle.std.specs.Prelude.{ℕ, ◌≤◌, ◌<◌, ◌≡◌, cond, not, ◌||◌, List, [], ◌∷◌, eqb, length}
-use Rattle.std.proofs.Common.{sym, ap, ◌∙◌, lt-ltb, le-ltb, ne_eqb}
+use Rattle.std.proofs.Common.{sym, ap, ◌∙◌, lt-ltb, le-ltb, ne_eqb, ℕ, ◌≤◌, ◌<◌, ◌≡◌, cond, not, ◌||◌, List, [], ◌∷◌, eqb, length}
 use Rattle.fields.specs.declared.ByteOrder.TheVariants.{Little, Big}
 use Rattle.fields.specs.Number.{big, unsigned_at}
 use Rattle.points.specs.ReadInto.{first_refusal}

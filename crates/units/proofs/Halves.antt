@@ -1,19 +1,14 @@
 -- A whole number becomes an f32 by its halves, h · 65536 + l. Each half is an f32 exactly, and so is the product, so only the sum rounds, as `of_int` does, from the number itself.
 -- `HasValue x s a 1` says that x is a, or -a where s is true. Assumes nothing.
-use mathlib.Core.Path.{◌≡◌, refl, ◌∙◌}
-use mathlib.Core.Bool.{Bool, true, false, false≢true}
-use Prim.Native.Nat.{ℕ, zero, suc, ◌+◌, ◌-◌, ◌*◌, ◌^◌, ◌≤◌, ◌<◌}
-use native.Mathlib.Nat.{mul-pos, mul_comm, mul_assoc, mul_left_comm, mul-one, mul-add, mul-sub, mul-lt-mul_of_pos_left, mul-le-mul_right, le_of_lt, lt_of_le_of_lt}
-use native.Mathlib.Omega.{arith}
-use borrow.Author.Tests.{lt-ltb, le-ltb}
-use lib.IntN.{ℤ, pos, negsuc, neg_ℤ, ◌+ℤ◌, ◌*ℤ◌}
+use Rattle.std.proofs.Common.{◌≡◌, refl, ◌∙◌, Bool, true, false, ℕ, zero, suc, ◌+◌, ◌-◌, ◌*◌, ◌^◌, ◌≤◌, ◌<◌, mul-pos, mul_comm, mul_assoc, mul_left_comm, mul-one, mul-add, mul-le-mul_right, le_of_lt, lt_of_le_of_lt, arith, lt-ltb, le-ltb, ℤ, pos, negsuc, neg_ℤ, ◌+ℤ◌, ◌*ℤ◌, lit<, Float}
+use Rattle.std.proofs.lemmas.Bool.{false≢true}
+use native.Mathlib.Nat.{mul-sub, mul-lt-mul_of_pos_left}
 use lib.Signed.{mag}
-use lib.Dec.{lit<}
-use lib.Ieee.{Float, nan, inf, fin, binary32, unlike, up, down, round, add, sum, mul, of_int, of_bits}
-use lib.Ieee.Fits.{down_pos}
-use lib.Ieee.Exact.{HasValue, round_exact}
-use lib.Ieee.Scale.{round_same}
-use lib.Ieee.Back.{round_whole}
+use Rattle.std.specs.Float.Ieee.{nan, inf, fin, binary32, unlike, up, down, round, add, sum, mul, of_int, of_bits}
+use Rattle.std.specs.Float.Ieee.Fits.{down_pos}
+use Rattle.std.specs.Float.Ieee.Exact.{HasValue, round_exact}
+use Rattle.std.specs.Float.Ieee.Scale.{round_same}
+use Rattle.std.specs.Float.Ieee.Back.{round_whole}
 
 -- a fraction that is the whole number n
 round_at : (s : Bool) {a c : ℕ} (n : ℕ) → 0 < c → a ≡ c * n → round binary32 s a c ≡ round binary32 s n 1

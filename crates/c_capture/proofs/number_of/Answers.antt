@@ -1,7 +1,5 @@
 -- `c_capture::number_of` meets its contract: opening gives the number of the first check that applies. Assumes nothing.
-use Prim.Native.Nat.{ℕ}
-use mathlib.Core.Path.{sym, ap, ◌∙◌}
-use mathlib.Core.List.{List}
+use Rattle.std.proofs.Common.{ℕ, sym, ap, ◌∙◌, List}
 use Rattle.capture.specs.declared.walk.Cursor.{Cursor}
 use Rattle.capture.specs.Payloads.{opening, of_opened}
 use Rattle.c_capture.proofs.number_of.Goals as goal

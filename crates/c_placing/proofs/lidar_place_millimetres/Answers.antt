@@ -1,9 +1,6 @@
 -- `c_placing::lidar_place_millimetres` meets its contract: the reading as the machine holds it is the number given. Demand 3 follows (`both`). Assumes nothing.
-use mathlib.Core.Path.{ap, ◌∙◌}
-use Rattle.std.proofs.Common.{Some}
-use lib.IntN.{pos}
-use mir.Syntax.{w32}
-use mir.ValLaws.{to_z-of_z}
+use Rattle.std.proofs.Common.{Some, ap, ◌∙◌, pos, w32}
+use Rattle.std.proofs.lemmas.Int.{to_z-of_z}
 use Rattle.livox_stored.specs.Stored.{millimetres}
 use Rattle.placing.specs.Placing.{by_reading, place}
 use Rattle.placing.proofs.Accuracy.{seen}

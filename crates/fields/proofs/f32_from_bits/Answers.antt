@@ -1,11 +1,8 @@
 -- `fields::f32_from_bits` meets its contract. The test tells the patterns that are a NaN's from the others (`nan_bits_above`), and 0.0 / 0.0 is the NaN.
 -- Assumes nothing.
-use mathlib.Core.Path.{◌≡◌, refl, sym, ◌∙◌, subst}
-use mathlib.Core.Bool.{Bool, true, not}
-use lib.Dec.{T}
-use lib.Ieee.{Float, nan, inf, fin, binary32, div, of_bits, is_nan}
-use lib.Ieee.Bits.{nan_bits_is, nan_bits_above}
-use borrow.Author.Tests.{lt-ltb, le-ltb}
+use Rattle.std.proofs.Common.{◌≡◌, refl, sym, ◌∙◌, subst, Bool, true, not, T, Float, lt-ltb, le-ltb}
+use Rattle.std.specs.Float.Ieee.{nan, inf, fin, binary32, div, of_bits, is_nan}
+use Rattle.std.specs.Float.Ieee.Bits.{nan_bits_is, nan_bits_above}
 use Rattle.fields.proofs.f32_from_bits.Goals as goal
 
 -- 0.0 / 0.0 as MIR has it, with 0.0 by its pattern

@@ -1,5 +1,5 @@
 -- `livox_header::form_of` meets its contract: the mark decides. Assumes nothing.
-use mathlib.Core.Path.{sym, ◌∙◌}
+use Rattle.std.proofs.Common.{sym, ◌∙◌}
 use Rattle.livox_header.specs.Header.{form_of}
 use Rattle.livox_header.proofs.form_of.Goals as goal
 

@@ -1,6 +1,5 @@
 -- `payloads::payload_as` meets its contract. What the place of the rank is, is that of the definition (`is_place`), and it lies inside the capture. Assumes nothing.
-use Rattle.std.specs.Prelude.{ℕ, ◌≡◌, ◌+◌, ◌≤◌, List, length, Option, Some, None, unwrap_or}
-use Rattle.std.proofs.Common.{sym, ◌∙◌, arith, rules}
+use Rattle.std.proofs.Common.{sym, ◌∙◌, arith, rules, ℕ, ◌≡◌, ◌+◌, ◌≤◌, List, length, Option, Some, None, unwrap_or}
 use Rattle.record_rule.specs.declared.reading.Reading.{Reading}
 use Rattle.record_rule.specs.declared.time.TimeUnit.TheVariants.{Microseconds}
 use Rattle.record_rule.specs.declared.time.Timestamp.{Timestamp}

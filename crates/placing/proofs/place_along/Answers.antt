@@ -2,8 +2,8 @@
 -- Assumes nothing.
 use Rattle.std.proofs.Common.{◌≡◌, ℕ, ◌^◌, ◌<◌, ◌≤◌, false, ℤ, pos, ◌+ℤ◌, ◌*ℤ◌, sym, refl, ap, ◌∙◌, le_trans, lt_of_le_of_lt, arith, lit≤, w32, w64, SFits, to_z, of_z, rules}
 use lib.Signed.{mag}
-use lib.Ieee.{of_bits, round}
-use mir.ValLaws.{to_z-of_z}
+use Rattle.std.specs.Float.Ieee.{of_bits, round}
+use Rattle.std.proofs.lemmas.Int.{to_z-of_z}
 use Rattle.placing.specs.Placing.{bad_pulse_length, metres, outside}
 use Rattle.placing.proofs.Checks.{at_most, bad_length, beyond, castable, micrometres, within}
 use Rattle.placing.proofs.Whole.{sum_in}

@@ -1,6 +1,5 @@
 -- `savefile::file_header` meets its contract: each way out is a case of the table of checks, or what its magic says. Assumes nothing.
-use Rattle.std.specs.Prelude.{ℕ, ◌≡◌, ◌≤◌, List, length, Some}
-use Rattle.std.proofs.Common.{sym, ◌∙◌, arith}
+use Rattle.std.proofs.Common.{sym, ◌∙◌, arith, ℕ, ◌≡◌, ◌≤◌, List, length, Some}
 use Rattle.std.proofs.lemmas.Result.{err_from_is_err_and}
 use Rattle.fields.specs.Number.{big, unsigned_at, field}
 use Rattle.fields.proofs.Opened.{is_number, never_missing}

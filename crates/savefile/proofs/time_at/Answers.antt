@@ -1,6 +1,5 @@
 -- `savefile::time_at` meets its contract. The header lies inside, so both numbers are there. Assumes nothing.
-use Rattle.std.specs.Prelude.{◌≡◌, ◌+◌}
-use Rattle.std.proofs.Common.{sym, ◌∙◌, arith}
+use Rattle.std.proofs.Common.{sym, ◌∙◌, arith, ◌≡◌, ◌+◌}
 use Rattle.fields.specs.Number.{unsigned_at}
 use Rattle.fields.proofs.Opened.{is_number, never_missing}
 use Rattle.savefile.proofs.time_at.Goals as goal

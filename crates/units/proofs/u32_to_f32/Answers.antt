@@ -1,10 +1,6 @@
 -- `units::u32_to_f32` meets its contract: `halves` at n / 65536 and n % 65536. Assumes nothing.
-use mathlib.Core.Path.{◌∙◌, ap}
-use Prim.Native.Nat.{ℕ, ◌/◌, ◌%◌}
-use native.Mathlib.Nat.{div-add-mod'}
-use native.Mathlib.Omega.{arith}
-use lib.IntN.{pos}
-use lib.Ieee.{binary32, of_int}
+use Rattle.std.proofs.Common.{◌∙◌, ap, ℕ, ◌/◌, ◌%◌, div-add-mod', arith, pos}
+use Rattle.std.specs.Float.Ieee.{binary32, of_int}
 use Rattle.units.proofs.Halves.{halves}
 use Rattle.units.proofs.u32_to_f32.Goals as goal
 

@@ -1,6 +1,5 @@
 -- `capture::open_as` meets its contract: it opens by the file header's answer (`by_header`). Assumes nothing.
-use Rattle.std.specs.Prelude.{◌≡◌, Err}
-use Rattle.std.proofs.Common.{sym, ap, ◌∙◌, rules}
+use Rattle.std.proofs.Common.{sym, ap, ◌∙◌, rules, ◌≡◌, Err}
 use Rattle.savefile.specs.Headers.{of_file_header}
 use Rattle.savefile.proofs.Header.{format_told}
 use Rattle.capture.proofs.Opening.{by_header}

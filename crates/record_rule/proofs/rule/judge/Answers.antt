@@ -1,6 +1,5 @@
 -- `record_rule::judge` meets its contract. What code reads are the definition's fields, and each way out is a case of its tests. Assumes nothing.
-use Rattle.std.specs.Prelude.{ℕ, ◌+◌, ◌≤◌, ◌≡◌, List, length, Some}
-use Rattle.std.proofs.Common.{◌∙◌, arith, rules, le-ltb, eq-eqb, ne_eqb}
+use Rattle.std.proofs.Common.{◌∙◌, arith, rules, le-ltb, eq-eqb, ne_eqb, ℕ, ◌+◌, ◌≤◌, ◌≡◌, List, length, Some}
 use Rattle.fields.specs.Number.{big, field}
 use Rattle.fields.proofs.Opened.{is_number, never_missing}
 use Rattle.record_rule.specs.Ethernet.{type_at, ether_type}

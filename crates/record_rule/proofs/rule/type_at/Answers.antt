@@ -1,6 +1,5 @@
 -- `record_rule::type_at` meets its contract. The EtherType at 12 tells whether there is a tag. Assumes nothing.
-use Rattle.std.specs.Prelude.{◌≡◌}
-use Rattle.std.proofs.Common.{sym, ◌∙◌, arith, eq-eqb, ne_eqb}
+use Rattle.std.proofs.Common.{sym, ◌∙◌, arith, eq-eqb, ne_eqb, ◌≡◌}
 use Rattle.fields.specs.Number.{big, unsigned_at}
 use Rattle.fields.proofs.Opened.{is_number, never_missing}
 use Rattle.record_rule.specs.Ethernet.{type_at}

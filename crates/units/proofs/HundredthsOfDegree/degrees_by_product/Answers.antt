@@ -1,6 +1,6 @@
 -- `units::HundredthsOfDegree::degrees_by_product` meets its contract: the literal's bits are 0.01, rounded. Assumes nothing.
-use mathlib.Core.Path.{refl}
-use lib.Ieee.{round, of_bits}
+use Rattle.std.proofs.Common.{refl}
+use Rattle.std.specs.Float.Ieee.{round, of_bits}
 use Rattle.units.specs.Conversions.{degrees_by_product}
 use Rattle.units.proofs.HundredthsOfDegree.degrees_by_product.Goals as goal
 

@@ -1,6 +1,6 @@
 -- `units::Millimetres::metres` meets its contract: the literal's bits are 1000.0. Assumes nothing.
-use borrow.Author.Rules.{rules}
-use lib.Ieee.{round, of_bits}
+use Rattle.std.proofs.Common.{rules}
+use Rattle.std.specs.Float.Ieee.{round, of_bits}
 use Rattle.units.specs.Conversions.{metres_of_millimetres}
 use Rattle.units.proofs.Millimetres.metres.Goals as goal
 

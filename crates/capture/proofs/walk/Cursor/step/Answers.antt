@@ -1,7 +1,6 @@
 -- `capture::Cursor::step` meets its contract. The loop's invariant: from the place reached the walk yields what it yields from the cursor on. A record that is
 -- passed over moves the place after it, and a payload is the first of them. Assumes nothing.
-use Rattle.std.specs.Prelude.{ℕ, ◌+◌, ◌-◌, ◌≤◌, ◌<◌, ◌≡◌, List, ◌++◌, take, drop, Some, Ok}
-use Rattle.std.proofs.Common.{sym, ap, ◌∙◌, arith}
+use Rattle.std.proofs.Common.{sym, ap, ◌∙◌, arith, ℕ, ◌+◌, ◌-◌, ◌≤◌, ◌<◌, ◌≡◌, List, ◌++◌, take, drop, Some, Ok}
 use Rattle.record_rule.specs.declared.Record.{Record}
 use Rattle.record_rule.specs.declared.rule.Part.{Part}
 use Rattle.savefile.specs.Headers.{recorded_at}

@@ -1,6 +1,6 @@
 -- `ouster_settings::OusterSettings::os1_64_altitudes` meets its contract: the bits of each literal are the definition's decimal, rounded. Assumes nothing.
-use mathlib.Core.Path.{refl}
-use lib.Ieee.{round, of_bits}
+use Rattle.std.proofs.Common.{refl}
+use Rattle.std.specs.Float.Ieee.{round, of_bits}
 use Rattle.ouster_settings.specs.Settings.{os1_64_elevations}
 use Rattle.ouster_settings.proofs.settings.OusterSettings.os1_64_altitudes.Goals as goal
 

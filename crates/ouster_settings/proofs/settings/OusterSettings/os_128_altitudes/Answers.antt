@@ -1,8 +1,7 @@
 -- `ouster_settings::OusterSettings::os_128_altitudes` meets its contract. The loop's invariant: the first i elevations are the definition's, of 128. Assumes nothing.
-use Rattle.std.specs.Prelude.{◌≡◌}
-use Rattle.std.proofs.Common.{refl, sym, ◌∙◌, arith, length-set}
+use Rattle.std.proofs.Common.{refl, sym, ◌∙◌, arith, length-set, ◌≡◌}
 use Rattle.std.proofs.lemmas.List.{take_all}
-use lib.Ieee.{round, of_bits}
+use Rattle.std.specs.Float.Ieee.{round, of_bits}
 use Rattle.points.specs.Tabulate.{tabulate}
 use Rattle.points.proofs.Lists.{tabulate-set}
 use Rattle.ouster_settings.specs.Settings.{os_128_elevation, os_128_elevations}
