@@ -45,6 +45,7 @@ pub struct Counts {
 }
 
 impl Refusal {
+    // A method and no From: a refusal tells two numbers, of which `u8::from` would not say the one.
     pub fn number(self) -> u8
         ensures { result ≡ refusal_number self }
     {
@@ -76,7 +77,7 @@ impl Refusal {
     }
 }
 
-// 0 where a reader read, else its refusal's number.
+// 0 where a reader read, else its refusal's number. No From, since an answer tells three numbers.
 pub fn number_of(answer: Result<Counts, Refusal>) -> u8
     ensures { result ≡ number_of answer }
 {

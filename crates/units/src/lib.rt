@@ -72,6 +72,7 @@ impl TwoMillimetres {
     }
 }
 
+// This and the next read alike, and stay two: a type for each unit keeps one from being taken for another.
 impl Millimetres {
     pub fn metres(self) -> f32
         ensures { result ≡ metres_of_millimetres self.0 }
