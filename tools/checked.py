@@ -47,6 +47,14 @@ def state_of(crate):
     return digest.hexdigest()
 
 
+def of_impl(line):
+    """How the prover names an impl by its first line, `U16Field` for `impl Field for u16 {`, and the trait, if there is one."""
+    while (plain := re.sub(r"<[^<>]*>", "", line)) != line:
+        line = plain
+    trait, _, type_ = line.removeprefix("impl").removesuffix("{").strip().rpartition(" for ")
+    return type_[0].upper() + type_[1:] + trait, trait
+
+
 def link(one, other):
     """What was proved is replaced by a check, and never changed, so that a second name will do."""
     if one.endswith(".oantt") or "/rlib/" in one:
