@@ -1,3 +1,2 @@
--- The laws of the checks of a Livox header.
-mod Checks
+-- The laws of opening a Livox file.
 pub mod Opening
