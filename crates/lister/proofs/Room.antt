@@ -1,5 +1,5 @@
 -- A file that was read had room for its points: 10 is the last check, and no check applied.
-use Rattle.std.proofs.Common.{ℕ, zero, suc, ◌≤◌, arith, ◌≡◌, refl, sym, ◌∙◌, List, length, Ok}
+use Rattle.std.proofs.Common.{ℕ, zero, suc, ◌≤◌, arith, ◌≡◌, refl, List, length, Ok}
 use Rattle.std.proofs.lemmas.Bool.Decides.{nat_tests}
 use Rattle.answers.specs.declared.Counts.{Counts}
 use Rattle.points.specs.declared.point.Point.{Point}

@@ -1,6 +1,6 @@
 -- Placing by file and rank is placing the stored reading of that rank, where there is one; else it gives the number that says why there is none. Demand 3 follows (`both`).
 -- Assumes nothing.
-use Rattle.std.proofs.Common.{◌≡◌, refl, sym, ap, ◌∙◌, ℕ, zero, suc, ◌≤◌, ◌<◌, zero-le, Bool, true, false, true≢false, cond, List, [], ◌∷◌, ◌++◌, length, slice_get, nat_le, Option, Some, None, Result, Ok, Err, le-leb, arith}
+use Rattle.std.proofs.Common.{◌≡◌, refl, sym, ap, ◌∙◌, ℕ, zero, suc, ◌≤◌, ◌<◌, zero-le, Bool, true, false, true≢false, cond, List, [], ◌∷◌, ◌++◌, length, slice_get, nat_le, Option, Some, None, Result, le-leb, arith}
 use Rattle.std.proofs.lemmas.Bool.{lt-leb}
 use Rattle.points.specs.ReadInto.{first_refusal}
 use Rattle.points.proofs.ReadInto.{first_passes, first_decides}
@@ -12,7 +12,7 @@ use Rattle.livox_file.specs.Livox.{stored}
 use Rattle.answers.specs.declared.Refusal.{Refusal}
 use Rattle.livox_stored.specs.declared.StoredReading.{StoredReading}
 use Rattle.livox_rank.specs.Ranks.{of_stored_answer, ranked_as, reading_of_rank}
-use Rattle.placing.specs.Placing.{Asked, by_reading, Placement, place, refused}
+use Rattle.placing.specs.Placing.{by_reading, Placement, place, refused}
 use Rattle.placing.specs.Accuracy.{Accurate, seen_at}
 use Rattle.placing.proofs.Accuracy.{both, seen}
 use Rattle.placing.proofs.Checks.{file_refused, let_through, not_placeable}
