@@ -9,6 +9,7 @@ ghost use Rattle.c_form.specs.Reading.{reading_of};
 use answers::{Counts, Refusal};
 use capture::Reading;
 
+// C names a reading by a flag.
 pub fn reading_of(savefile: bool) -> Reading
     ensures { result ≡ reading_of savefile }
 {

@@ -59,7 +59,8 @@ fn tell_place(
     pulse_length: u32,
     metres: &mut f32,
 ) -> u8
-    ensures { (result, metres.new) ≡ tell_placed (place (by_reading (of_stored_reading reading)) count datum pulse_length) metres.old }
+    ensures placed { (result, metres.new) ≡ tell_placed (place (by_reading (of_stored_reading reading)) count datum pulse_length) metres.old }
+    ensures accurate { Accurate [] (Some (of_stored_reading reading)) count datum pulse_length (received (result, metres.new)) }
 {
     let belt = Belt {
         count: BeltCount(count),
