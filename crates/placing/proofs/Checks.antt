@@ -1,5 +1,5 @@
 -- A placing, check by check: the checks of a file in their order, then 11, 12 and 13, then the distance (`by_checks`). Assumes nothing.
-use Rattle.std.proofs.Common.{◌≡◌, ℕ, zero, suc, ◌^◌, ◌<◌, ◌≤◌, Bool, true, false, ◌||◌, T, ltb, [], ℤ, pos, negsuc, sym, refl, ap, ◌∙◌, subst, true≢false, le_trans, lt_of_le_of_lt, le→leb, lt→ltb, ltb-false, Float, Some, None}
+use Rattle.std.proofs.Common.{◌≡◌, ℕ, zero, suc, ◌^◌, ◌<◌, ◌≤◌, Bool, true, false, ◌||◌, T, ltb, [], ℤ, pos, negsuc, sym, refl, ap, ◌∙◌, subst, le_trans, lt_of_le_of_lt, le→leb, lt→ltb, ltb-false, Float, Some, None}
 use mathlib.Core.Bool.{or-false}
 use Rattle.std.proofs.lemmas.Bool.{or_parts}
 use Rattle.std.specs.Float.Ieee.{binary32, in_float}

@@ -1,7 +1,7 @@
 -- A distance in metres is within half a micrometre of its micrometres. It is n / 1,000,000 rounded once (`metres_is`), a multiple of 2 ^ k steps that is off by at most half
 -- of one such multiple (`near`). Below 16,000,000 micrometres k is at most 129, and 1,000,000 · 2 ^ 129 is below 2 ^ 149; at 16,000,000 nothing is rounded.
 -- Assumes nothing.
-use Rattle.std.proofs.Common.{◌≡◌, ℕ, zero, suc, ◌+◌, ◌-◌, ◌*◌, ◌/◌, ◌%◌, ◌^◌, ◌<◌, ◌≤◌, Bool, true, false, cond, not, T, eqb, leb, ℤ, pos, negsuc, ◌-ℤ◌, ◌*ℤ◌, neg_ℤ, nat_abs, sym, refl, ap, ◌∙◌, subst, inl, inr, zero-le, le_trans, le_of_eq, le_refl, lt_of_le_of_lt, add-zero, le_of_lt, mul-le-mul_right, mod-lt, mul_assoc, mul_comm, div-lt_iff_lt-mul, eq-or-lt_of_le, mul-le-mul_left, mul-lt-mul_of_pos_right, mul-pos, lt_of_not-le, mul-zero, div-add-mod', mul-one, mul-suc, mul-add, arith, lit<, lit≤, eqb→eq, leb→le, pow_pos, pow_mono, pow-add, le-ltb, lt-ltb, eq-eqb, ne_eqb, Float}
+use Rattle.std.proofs.Common.{◌≡◌, ℕ, zero, suc, ◌+◌, ◌-◌, ◌*◌, ◌/◌, ◌%◌, ◌^◌, ◌<◌, ◌≤◌, Bool, true, false, cond, not, T, eqb, leb, ℤ, pos, negsuc, ◌-ℤ◌, ◌*ℤ◌, neg_ℤ, nat_abs, sym, refl, ap, ◌∙◌, subst, inl, inr, zero-le, le_trans, lt_of_le_of_lt, add-zero, le_of_lt, mod-lt, mul_assoc, mul_comm, div-lt_iff_lt-mul, eq-or-lt_of_le, mul-le-mul_left, mul-lt-mul_of_pos_right, mul-pos, lt_of_not-le, mul-zero, div-add-mod', mul-one, mul-suc, mul-add, arith, lit<, lit≤, eqb→eq, leb→le, pow_pos, pow_mono, le-ltb, lt-ltb, eq-eqb, ne_eqb, Float}
 use Prim.Native.Nat.{compare, Ordering}
 use native.Mathlib.Nat.{eq_of_mul-eq-mul_right}
 use native.Mathlib.Decide.{dec_le, ℕ_discrete}
@@ -9,7 +9,7 @@ use lib.Arith.{lt_of_le-ne}
 use lib.IntN.{sub_ℕ}
 use Rattle.placing.specs.Accuracy.{exponent_bits, Finite, fraction_bits, magnitude, steps, Within}
 use lib.Dec.{is_le, compare_is_eq, nleb→lt}
-use Rattle.std.specs.Float.Ieee.{nan, inf, fin, binary32, up, down, size, nearest, unlike, odd, units, round, div, of_int, of_fields, of_bits, to_bits, fits}
+use Rattle.std.specs.Float.Ieee.{nan, inf, fin, binary32, up, down, size, nearest, unlike, odd, round, div, of_int, of_fields, of_bits, to_bits, fits}
 use Rattle.std.specs.Float.Ieee.Digits.{size-le}
 use Rattle.std.specs.Float.Ieee.Fits.{down_pos, round_is, round-fits}
 use Rattle.std.specs.Float.Ieee.Exact.{HasValue, odd_sign, units_val}

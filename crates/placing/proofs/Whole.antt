@@ -1,5 +1,5 @@
 -- Whole numbers with a sign: how large a product and a sum can be, and how 64 bits hold them. Assumes nothing.
-use Rattle.std.proofs.Common.{◌≡◌, ℕ, zero, suc, ◌+◌, ◌-◌, ◌*◌, ◌^◌, ◌<◌, ◌≤◌, ltb, ℤ, pos, negsuc, ◌+ℤ◌, ◌*ℤ◌, neg_ℤ, refl, le_trans, le_refl, mul-le-mul, lt_of_not-le, arith, le-ltb, lt-ltb}
+use Rattle.std.proofs.Common.{ℕ, zero, suc, ◌+◌, ◌*◌, ◌<◌, ◌≤◌, ℤ, pos, negsuc, ◌+ℤ◌, ◌*ℤ◌, neg_ℤ, le_trans, le_refl, mul-le-mul, lt_of_not-le, arith, le-ltb, lt-ltb}
 use native.Mathlib.Decide.{dec_le}
 use lib.IntN.{sub_ℕ}
 use lib.Signed.{mag}

@@ -3,7 +3,7 @@
 -- and where checks 1 to 7 let the file through, with a pulse length of 1 to 1,000, the point is refused exactly beyond
 -- 16 m, with 13. The stored reading and the file's checks are those of the readers; of `Placing` only what a placing
 -- gives back is shared.
-use Rattle.std.specs.Prelude.{◌≡◌, ℕ, zero, suc, ◌+◌, ◌-◌, ◌*◌, ◌/◌, ◌%◌, ◌^◌, ◌<◌, ◌≤◌, Bool, true, false, cond, List, ℤ, pos, negsuc, ◌+ℤ◌, ◌-ℤ◌, ◌*ℤ◌, neg_ℤ, nat_le, to_bits, unsigned_abs, Float, Option, None, Some}
+use Rattle.std.specs.Prelude.{◌≡◌, ℕ, zero, suc, ◌+◌, ◌-◌, ◌*◌, ◌/◌, ◌%◌, ◌^◌, ◌<◌, ◌≤◌, cond, List, ℤ, pos, negsuc, ◌+ℤ◌, ◌-ℤ◌, ◌*ℤ◌, neg_ℤ, nat_le, to_bits, unsigned_abs, Float, Option, None, Some}
 use Rattle.std.specs.Float.{binary32}
 use Rattle.points.specs.ReadInto.{Check, first_refusal}
 use Rattle.livox_stored.specs.Stored.{Stored, millimetres, ten_millimetres, spherical, float}

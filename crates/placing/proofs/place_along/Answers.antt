@@ -1,11 +1,11 @@
 -- `placing::place_along` meets its contract: the checks in their order (`Checks`), the exact micrometres in 64 bits, and inside the window a cast that loses nothing.
 -- Assumes nothing.
-use Rattle.std.proofs.Common.{◌≡◌, ℕ, ◌^◌, ◌<◌, ◌≤◌, false, ℤ, pos, ◌+ℤ◌, ◌*ℤ◌, sym, refl, ap, ◌∙◌, le_trans, lt_of_le_of_lt, arith, lit≤, w32, w64, SFits, to_z, of_z, rules}
+use Rattle.std.proofs.Common.{◌≡◌, ◌^◌, ◌<◌, false, ℤ, pos, ◌+ℤ◌, ◌*ℤ◌, sym, ap, ◌∙◌, arith, lit≤, w32, w64, SFits, to_z, of_z}
 use lib.Signed.{mag}
 use Rattle.std.specs.Float.Ieee.{of_bits, round}
 use Rattle.std.proofs.lemmas.Int.{to_z-of_z}
 use Rattle.placing.specs.Placing.{bad_pulse_length, metres, outside}
-use Rattle.placing.proofs.Checks.{at_most, bad_length, beyond, castable, micrometres, within}
+use Rattle.placing.proofs.Checks.{bad_length, beyond, castable, micrometres, within}
 use Rattle.placing.proofs.Whole.{sum_in}
 use Rattle.placing.proofs.place_along.Goals as goal
 
