@@ -1,8 +1,8 @@
 -- Demand 3 holds of every placing. First what it needs of the definitions, a fact each: the functions' proofs hold for other numbers as well, so that a definition which says
 -- otherwise is refused here, even where the code says the same. Then the claim, by what a placing comes to (`by_checks`). Assumes nothing.
 use Rattle.std.proofs.Common.{◌≡◌, ℕ, ◌+◌, ◌%◌, ◌^◌, ◌<◌, ◌≤◌, false, ltb, ℤ, pos, negsuc, ◌-ℤ◌, nat_abs, sym, refl, ap, ◌∙◌, subst, true≢false, suc-ne-zero, ltb-false, ltb-true, le-ltb, Option, None, Some}
-use mathlib.Core.Bool.{or-false}
-use lib.Dec.{leb-suc-suc}
+use Rattle.std.proofs.Math.Bool.{or-false}
+use Rattle.std.proofs.Math.Dec.{leb-suc-suc}
 use Rattle.std.specs.Float.Ieee.{binary32, div, of_int, round}
 use Rattle.points.specs.ReadInto.{first_refusal}
 use Rattle.points.proofs.ReadInto.{Numbered}

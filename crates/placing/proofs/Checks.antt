@@ -1,9 +1,9 @@
 -- A placing, check by check: the checks of a file in their order, then 11, 12 and 13, then the distance (`by_checks`). Assumes nothing.
 use Rattle.std.proofs.Common.{◌≡◌, ℕ, zero, suc, ◌^◌, ◌<◌, ◌≤◌, Bool, true, false, ◌||◌, T, ltb, [], ℤ, pos, negsuc, sym, refl, ap, ◌∙◌, subst, le_trans, lt_of_le_of_lt, le→leb, lt→ltb, ltb-false, Float, Some, None}
-use mathlib.Core.Bool.{or-false}
+use Rattle.std.proofs.Math.Bool.{or-false}
 use Rattle.std.proofs.lemmas.Bool.{or_parts}
 use Rattle.std.specs.Float.Ieee.{binary32, in_float}
-use lib.Signed.{lt_z}
+use Rattle.std.specs.Int.Signed.{lt_z}
 use Rattle.points.specs.ReadInto.{first_refusal}
 use Rattle.points.proofs.ReadInto.{Numbered, first_decides, first_passes}
 use Rattle.placing.specs.Placing.{Asked, bad_pulse_length, checks_of, exact, exact_of, metres, outside, place, Placement, placement_of, pulses, refused, told}

@@ -3,12 +3,12 @@
 -- Assumes nothing.
 use Rattle.std.proofs.Common.{◌≡◌, ℕ, zero, suc, ◌+◌, ◌-◌, ◌*◌, ◌/◌, ◌%◌, ◌^◌, ◌<◌, ◌≤◌, Bool, true, false, cond, not, T, eqb, leb, ℤ, pos, negsuc, ◌-ℤ◌, ◌*ℤ◌, neg_ℤ, nat_abs, sym, refl, ap, ◌∙◌, subst, inl, inr, zero-le, le_trans, lt_of_le_of_lt, add-zero, le_of_lt, mod-lt, mul_assoc, mul_comm, div-lt_iff_lt-mul, eq-or-lt_of_le, mul-le-mul_left, mul-lt-mul_of_pos_right, mul-pos, lt_of_not-le, mul-zero, div-add-mod', mul-one, mul-suc, mul-add, arith, lit<, lit≤, eqb→eq, leb→le, pow_pos, pow_mono, le-ltb, lt-ltb, eq-eqb, ne_eqb, Float}
 use Prim.Native.Nat.{compare, Ordering}
-use native.Mathlib.Nat.{eq_of_mul-eq-mul_right}
-use native.Mathlib.Decide.{dec_le, ℕ_discrete}
-use lib.Arith.{lt_of_le-ne}
-use lib.IntN.{sub_ℕ}
+use Rattle.std.proofs.Math.Nat.{eq_of_mul-eq-mul_right}
+use Rattle.std.proofs.Math.Decide.{dec_le, ℕ_discrete}
+use Rattle.std.proofs.Math.Arith.{lt_of_le-ne}
+use Rattle.std.proofs.Math.IntN.{sub_ℕ}
 use Rattle.placing.specs.Accuracy.{exponent_bits, Finite, fraction_bits, magnitude, steps, Within}
-use lib.Dec.{is_le, compare_is_eq, nleb→lt}
+use Rattle.std.proofs.Math.Dec.{is_le, compare_is_eq, nleb→lt}
 use Rattle.std.specs.Float.Ieee.{nan, inf, fin, binary32, up, down, size, nearest, unlike, odd, round, div, of_int, of_fields, of_bits, to_bits, fits}
 use Rattle.std.specs.Float.Ieee.Digits.{size-le}
 use Rattle.std.specs.Float.Ieee.Fits.{down_pos, round_is, round-fits}

@@ -1,8 +1,8 @@
 -- Whole numbers with a sign: how large a product and a sum can be, and how 64 bits hold them. Assumes nothing.
 use Rattle.std.proofs.Common.{ℕ, zero, suc, ◌+◌, ◌*◌, ◌<◌, ◌≤◌, ℤ, pos, negsuc, ◌+ℤ◌, ◌*ℤ◌, neg_ℤ, le_trans, le_refl, mul-le-mul, lt_of_not-le, arith, le-ltb, lt-ltb}
-use native.Mathlib.Decide.{dec_le}
-use lib.IntN.{sub_ℕ}
-use lib.Signed.{mag}
+use Rattle.std.proofs.Math.Decide.{dec_le}
+use Rattle.std.proofs.Math.IntN.{sub_ℕ}
+use Rattle.std.specs.Int.Signed.{mag}
 
 mag-negℤ : (n : ℕ) → mag (neg_ℤ (pos n)) ≤ n
 mag-negℤ zero = le_refl 0
