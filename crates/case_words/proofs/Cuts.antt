@@ -1,9 +1,7 @@
 -- The first piece of a text reaches to the first byte that ends one, and the other pieces are those of what follows it.
-use Rattle.std.proofs.Common.{ℕ, zero, suc, ◌≤◌, ◌≡◌, ◌≢◌, refl, Bool, true, false, List, [], ◌∷◌, length, take, drop, get_or, ap, ◌∙◌, add-one, one-add, ltb-false, arith, ◌==◌, not, nat_lt, Option, Some, None, slice_get, unwrap_or, position}
+use Rattle.std.proofs.Common.{ℕ, zero, suc, ◌≤◌, ◌≡◌, ◌≢◌, refl, Bool, true, false, List, [], ◌∷◌, length, take, drop, get_or, ap, ◌∙◌, add-one, one-add, ltb-false, arith, ◌==◌, not, nat_lt, Option, Some, None, slice_get, unwrap_or, option_map, position, Bor}
 use Rattle.std.specs.List.{position_or_len}
 use Rattle.std.proofs.lemmas.List.{drop-drop}
-use Rattle.std.specs.Option.{option_map}
-use Rattle.std.proofs.Common.{Bor}
 use Rattle.std.proofs.lemmas.List.Sums.{prefix_len-le-length}
 use Rattle.case_words.specs.Words.{index_of, joined, pieces_of}
 
