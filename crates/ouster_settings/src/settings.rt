@@ -36,6 +36,7 @@ impl OusterSettings {
         altitudes < beams
     }
 
+    // Made-ready settings, a function for each sensor by its name, as lidar.rs has them.
     pub fn os1_64() -> Self
         ensures { result ≡ os1_64 }
     {

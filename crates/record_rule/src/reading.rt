@@ -10,7 +10,7 @@ pub enum Reading {
 }
 
 impl Reading {
-    // The reading of a caller who names none.
+    // The reading of a caller who names none. It is no Default, since the definition of this name says which one that is.
     pub fn usual() -> Self
         ensures { result ≡ usual }
     {

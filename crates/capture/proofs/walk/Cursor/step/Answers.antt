@@ -38,54 +38,26 @@ returns-in_err-record c =
     c.from_residual.ensures ∙ sym (ap (step_to a.self) (c.loop-record.invariant ∙ at_end a.self.reading a.self.format a.self.port a.«data».now c.loop-record.at end))
 
 pub overflow_add-end : goal.overflow_add-end
-overflow_add-end c = omega (arith, (there c.args.self c.args.«data».now c.loop-record.at c.in_ok-record.record (sym c.record_at.ensures ∙ c.in_ok-record.was)).1)
+overflow_add-end c = omega (arith, (there _ _ _ _ (sym c.record_at.ensures ∙ c.in_ok-record.was)).1)
 
 pub slice_bounds-judge-end : goal.slice_bounds-judge-end
-slice_bounds-judge-end c = (there c.args.self c.args.«data».now c.loop-record.at c.in_ok-record.record (sym c.record_at.ensures ∙ c.in_ok-record.was)).1
+slice_bounds-judge-end c = (there _ _ _ _ (sym c.record_at.ensures ∙ c.in_ok-record.was)).1
 
 pub place_in-requires : goal.place_in-requires
 place_in-requires c =
-    let read : recorded_at c.args.self.format c.args.«data».now c.loop-record.at ≡ Some c.in_ok-record.record = sym c.record_at.ensures ∙ c.in_ok-record.was in
-    omega (
-      arith,
-      (there c.args.self c.args.«data».now c.loop-record.at c.in_ok-record.record read).1,
-      fits c.args.self c.args.«data».now c.loop-record.at c.in_ok-record.record read c.judge.result c.judge.ensures _ c.in-Ok.is,
-    )
+    let read = sym c.record_at.ensures ∙ c.in_ok-record.was in
+    omega (arith, (there _ _ _ _ read).1, fits _ _ _ _ read _ c.judge.ensures _ c.in-Ok.is)
 
 pub returns-in-Ok : goal.returns-in-Ok
 unfolding step_of
 returns-in-Ok c =
     rw (c.place_in.ensures, c.moved_to.ensures)
-    (sym
-    (ap
-    (step_to c.args.self)
-    (yielded
-    c.args.self
-    c.args.«data».now
-    c.loop-record.at
-    c.in_ok-record.record
-    (sym c.record_at.ensures ∙ c.in_ok-record.was)
-    c.judge.result
-    c.judge.ensures
-    c.loop-record.invariant
-    _
-    c.in-Ok.is)))
+    (sym (ap (step_to c.args.self) (yielded _ _ _ _ (sym c.record_at.ensures ∙ c.in_ok-record.was) _ c.judge.ensures c.loop-record.invariant _ c.in-Ok.is)))
 
 pub loop-record-smaller : goal.loop-record-smaller
 loop-record-smaller c =
-    let read : recorded_at c.args.self.format c.args.«data».now c.loop-record.at ≡ Some c.in_ok-record.record = sym c.record_at.ensures ∙ c.in_ok-record.was in
-    omega (arith, (there c.args.self c.args.«data».now c.loop-record.at c.in_ok-record.record read).1, on c.args.self c.args.«data».now c.loop-record.at c.in_ok-record.record read)
+    let read = sym c.record_at.ensures ∙ c.in_ok-record.was in
+    omega (arith, (there _ _ _ _ read).1, on _ _ _ _ read)
 
 pub loop-record-preserved : goal.loop-record-preserved
-loop-record-preserved c =
-    yielded
-    c.args.self
-    c.args.«data».now
-    c.loop-record.at
-    c.in_ok-record.record
-    (sym c.record_at.ensures ∙ c.in_ok-record.was)
-    c.judge.result
-    c.judge.ensures
-    c.loop-record.invariant
-    _
-    c.in_default.is
+loop-record-preserved c = yielded _ _ _ _ (sym c.record_at.ensures ∙ c.in_ok-record.was) _ c.judge.ensures c.loop-record.invariant _ c.in_default.is
