@@ -38,15 +38,15 @@ returns-in_err-record c =
     c.from_residual.ensures ∙ sym (ap (step_to a.self) (c.loop-record.invariant ∙ at_end a.self.reading a.self.format a.self.port a.«data».now c.loop-record.at end))
 
 pub overflow_add-end : goal.overflow_add-end
-overflow_add-end c = omega (arith, (there _ _ _ _ (sym c.record_at.ensures ∙ c.in_ok-record.was)).1)
+overflow_add-end c = omega (arith, (there c.args.self _ _ _ (sym c.record_at.ensures ∙ c.in_ok-record.was)).1)
 
 pub slice_bounds-judge-end : goal.slice_bounds-judge-end
-slice_bounds-judge-end c = (there _ _ _ _ (sym c.record_at.ensures ∙ c.in_ok-record.was)).1
+slice_bounds-judge-end c = (there c.args.self _ _ _ (sym c.record_at.ensures ∙ c.in_ok-record.was)).1
 
 pub place_in-requires : goal.place_in-requires
 place_in-requires c =
     let read = sym c.record_at.ensures ∙ c.in_ok-record.was in
-    omega (arith, (there _ _ _ _ read).1, fits _ _ _ _ read _ c.judge.ensures _ c.in-Ok.is)
+    omega (arith, (there c.args.self _ _ _ read).1, fits c.args.self _ _ _ read _ c.judge.ensures _ c.in-Ok.is)
 
 pub returns-in-Ok : goal.returns-in-Ok
 unfolding step_of
@@ -57,7 +57,7 @@ returns-in-Ok c =
 pub loop-record-smaller : goal.loop-record-smaller
 loop-record-smaller c =
     let read = sym c.record_at.ensures ∙ c.in_ok-record.was in
-    omega (arith, (there _ _ _ _ read).1, on _ _ _ _ read)
+    omega (arith, (there c.args.self _ _ _ read).1, on c.args.self _ _ _ read)
 
 pub loop-record-preserved : goal.loop-record-preserved
 loop-record-preserved c = yielded _ _ _ _ (sym c.record_at.ensures ∙ c.in_ok-record.was) _ c.judge.ensures c.loop-record.invariant _ c.in_default.is
