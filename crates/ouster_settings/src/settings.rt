@@ -3,6 +3,8 @@
 ghost use Rattle.std.specs.Prelude.{◌≡◌};
 ghost use Rattle.ouster_settings.specs.Settings.{is_beam_count, bad_settings, os1_64, os_128, os1_64_elevations, os_128_elevations};
 
+use std::array;
+
 #[derive(Clone, Copy, Debug, PartialEq, Eq)]
 pub struct OusterSettings {
     // Azimuth columns in a packet: 1 to 64.
@@ -67,11 +69,7 @@ impl OusterSettings {
     pub fn os_128_altitudes() -> [f32; 128]
         ensures { result ≡ os_128_elevations }
     {
-        let mut altitudes = [0.0; 128];
-        for i in 0u16..128 {
-            altitudes[i as usize] = 22.5 - (i as f32 / 127.0) * 45.0;
-        }
-        altitudes
+        array::from_fn(|i| 22.5 - (i as f32 / 127.0) * 45.0)
     }
 }
 

@@ -1,25 +1,23 @@
--- `ouster_settings::OusterSettings::os_128_altitudes` meets its contract. The loop's invariant: the first i elevations are the definition's, of 128. Assumes nothing.
-use Rattle.std.proofs.Common.{refl, sym, ◌∙◌, arith, length-set, ◌≡◌}
-use Rattle.std.proofs.lemmas.List.{take_all}
+-- `ouster_settings::OusterSettings::os_128_altitudes` meets its contract: each call gives the definition's elevation at its index. Assumes nothing.
+use Rattle.std.proofs.Common.{refl, arith, rules, ℕ, suc, ◌<◌, ◌≡◌, List, [], ◌∷◌, length, get_or}
+use Rattle.std.specs.Float.{nan}
 use Rattle.std.specs.Float.Ieee.{round, of_bits}
 use Rattle.points.specs.Tabulate.{tabulate}
-use Rattle.points.proofs.Lists.{tabulate-set}
 use Rattle.ouster_settings.specs.Settings.{os_128_elevation, os_128_elevations}
 use Rattle.ouster_settings.proofs.settings.OusterSettings.os_128_altitudes.Goals as goal
 
-pub loop-i-init : goal.loop-i-init
+-- A list is the table of its elements.
+table : {A : Type 0} (f : ℕ → A) (l : List A) (d : A) → ((i : ℕ) → i < length l → get_or l i d ≡ f i) → l ≡ tabulate (length l) f
 unfolding tabulate
-loop-i-init c = (refl, refl)
-
-pub loop-i-preserved : goal.loop-i-preserved
-unfolding of_bits os_128_elevation round
-loop-i-preserved c =
-    let loop = c.loop-i in
-    (length-set loop.altitudes loop.i _ ∙ loop.invariant.0, tabulate-set os_128_elevation loop.altitudes loop.i _ (omega arith) refl loop.invariant.1)
+table f [] d each = refl
+table f (x ∷ l) d each =
+    let here : x ≡ f 0 = each 0 (omega arith) in
+    let rest = table (λ k. f (suc k)) l d (λ i h. each (suc i) (omega arith)) in
+    cc
 
 pub returns : goal.returns
-unfolding os_128_elevations
+unfolding os_128_elevations os_128_elevation of_bits round
 returns c =
-    let loop = c.loop-i in
-    let all : loop.i ≡ 128 = omega arith in
-    sym (take_all 128 loop.altitudes (omega arith)) ∙ rw all at loop.invariant.1
+    let items = c.from_fn.ensures.items in
+    let each : (i : ℕ) → i < length c.from_fn.result → get_or c.from_fn.result i nan ≡ os_128_elevation i = λ i h. let told = (items.at i nan (rw items.long at h)).2.met in search rules in
+    rw items.long at (table os_128_elevation c.from_fn.result nan each)
