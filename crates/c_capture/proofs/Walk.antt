@@ -1,6 +1,6 @@
 -- The walk for C yields the payloads in order. From the place 0 all of them are to come (`all_to_come`). A step that finds a payload takes it off the front of
 -- those to come (`takes_one`), and one that finds none has none to come (`takes_none`). Assumes nothing.
-use Rattle.std.proofs.Common.{refl, sym, ap, arith, lt_of_not-le, ne_eqb, lt-ltb, le-ltb, ℕ, ◌≤◌, ◌≡◌, Bool, true, false, cond, List, [], ◌∷◌, eqb, ltb, Option, Some, None}
+use Rattle.std.proofs.Common.{refl, sym, ap, arith, lt_of_not-le, ne_eqb, lt-ltb, le-ltb, ℕ, ◌≤◌, ◌≡◌, Bool, true, false, true≢false, cond, List, [], ◌∷◌, eqb, ltb, Option, Some, None}
 use Rattle.std.proofs.Math.Decide.{dec_le, ℕ_discrete}
 use Rattle.points.specs.ReadInto.{first_refusal}
 use Rattle.record_rule.specs.declared.reading.Reading.{Reading}
@@ -18,9 +18,6 @@ after_header at =
       | yes h ↦ rw (le-ltb at 24 h) h
       | no h ↦ rw (lt-ltb at 24 (lt_of_not-le h)) (omega arith)
     ]
-
-never : {A : Type 0} → true ≡ false → A
-never e = let absurdly : ◌≡◌ {A = ℕ} 0 1 = cc in absurd (omega arith)
 
 module _ (reading : Reading) (port : ℕ) (bytes : List ℕ) where
   -- the walk's cursor at a place
@@ -48,19 +45,19 @@ module _ (reading : Reading) (port : ℕ) (bytes : List ℕ) where
     where
       none : (s : Option (Place × Cursor)) → step_of (cursor_at at) bytes ≡ s → tell_step at s ≡ (false, after, told) → places_from (cursor_at at) bytes ≡ []
       none None q t = step_end (cursor_at at) bytes q
-      none (Some (p, next)) q t = never (ap (λ (x : Bool × ℕ × PayloadTold). x.0) t)
+      none (Some (p, next)) q t = absurd (true≢false (ap (λ (x : Bool × ℕ × PayloadTold). x.0) t))
 
   pub takes_one : (at after : ℕ) (told : PayloadTold) → tell_next reading port bytes at ≡ (true, after, told) → (p : Place) × (tell_payload p ≡ told) × (to_come at ≡ p ∷ to_come after)
   unfolding tell_next step_from
   takes_one at after told e =
       elim (ℕ_discrete (first_refusal (checks reading bytes)) 0) [
         | yes z ↦ rw z (one (step_of (cursor_at at) bytes) refl (rw z at e))
-        | no n ↦ never (sym (ap (λ (x : Bool × ℕ × PayloadTold). x.0) (rw (ne_eqb (first_refusal (checks reading bytes)) 0 n) at e)))
+        | no n ↦ absurd (true≢false (sym (ap (λ (x : Bool × ℕ × PayloadTold). x.0) (rw (ne_eqb (first_refusal (checks reading bytes)) 0 n) at e))))
       ]
     where
       one : (s : Option (Place × Cursor)) → step_of (cursor_at at) bytes ≡ s → tell_step at s ≡ (true, after, told)
           → (p : Place) × (tell_payload p ≡ told) × (places_from (cursor_at at) bytes ≡ p ∷ places_from (cursor_at after) bytes)
-      one None q t = never (sym (ap (λ (x : Bool × ℕ × PayloadTold). x.0) t))
+      one None q t = absurd (true≢false (sym (ap (λ (x : Bool × ℕ × PayloadTold). x.0) t)))
       one (Some (p, next)) q t =
           let on = step_on (cursor_at at) bytes p next q in
           let same : next.at ≡ after = ap (λ (x : Bool × ℕ × PayloadTold). x.1) t in

@@ -4,7 +4,7 @@
 use Rattle.std.proofs.Common.{refl, ap, subst, inl, inr, arith, zero-le, lt_of_not-le, length-take, length-drop, ne_eqb, ℕ, zero, suc, ◌+◌, ◌-◌, ◌≤◌, ◌<◌, ◌≡◌, ◌⊎◌, Bool, true, false, cond, List, [], ◌∷◌, ◌++◌, eqb, length, take, drop, get_or, slice_get, unwrap_or, Some, None, Ok, Err}
 use Rattle.std.proofs.Math.Decide.{dec_le, ℕ_discrete}
 use Rattle.std.proofs.lemmas.Option.{unwrap_or-slice_get}
-use lib.ListN.{get_or-eq_default}
+use Rattle.std.proofs.lemmas.List.{get_or_past}
 use mathlib.Core.List.{flat_map}
 use Rattle.points.specs.ReadInto.{first_refusal}
 use Rattle.record_rule.specs.declared.Record.{Record}
@@ -68,7 +68,7 @@ module _ (number : ℕ) (places : List Place) (rank : ℕ) where
 
   pub none_handed : NoneOfRank → handed_as number places rank ≡ nowhere
   none_handed (inl n) = rw (ne_eqb number 0 n)
-  none_handed (inr h) = rw (get_or-eq_default places nowhere h) (either (eqb number 0))
+  none_handed (inr h) = rw (get_or_past places rank nowhere h) (either (eqb number 0))
     where
       either : (b : Bool) → cond b nowhere nowhere ≡ nowhere
       either true = refl
@@ -151,7 +151,7 @@ unfolding step_of
 of_step P c bytes p next all e = go (yields_after c bytes) all e
   where
     go : (l : List Yield) → AllOf P (places_of l) → step_to c l ≡ Some (p, next) → P p
-    go [] a q = let never : ◌≡◌ {A = ℕ} 0 1 = cc in absurd (omega arith)
+    go [] a q = absurd (cc)
     go (y ∷ l) a q =
         let both : ◌≡◌ {A = Place × Cursor} (y.place, moved_to c y.next) (p, next) = cc q in
         subst P (ap (λ (x : Place × Cursor). x.0) both) a.0

@@ -1,5 +1,5 @@
 -- Opening a capture by the file header's answer, and what an answer says of the checks. Assumes nothing.
-use Rattle.std.proofs.Common.{refl, sym, ap, ◌∙◌, arith, ℕ, ◌≡◌, Bool, true, false, cond, List, [], ◌∷◌, map, eqb}
+use Rattle.std.proofs.Common.{refl, sym, ap, ◌∙◌, ℕ, ◌≡◌, Bool, true, false, cond, List, [], ◌∷◌, map, eqb}
 use Rattle.points.specs.ReadInto.{first_refusal}
 use Rattle.record_rule.specs.declared.reading.Reading.{Reading}
 use Rattle.savefile.specs.declared.RecordFormat.{RecordFormat}
@@ -33,7 +33,7 @@ module _ (reading : Reading) (port : ℕ) (bytes : List ℕ) where
   unfolding opening
   refuses n e none =
       let one : [] ≡ start_cursor reading port bytes ∷ [] = ap (λ (x : ℕ × List Cursor). x.1) e ∙ rw none in
-      let never : ◌≡◌ {A = ℕ} 0 1 = cc in omega arith
+      cc
 
   -- A cursor keeps what the capture was opened with.
   pub kept : (cursor : Cursor) → (0, cursor ∷ []) ≡ opening reading port bytes → (cursor.reading ≡ reading) × (cursor.port ≡ port)

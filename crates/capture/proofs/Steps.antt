@@ -36,14 +36,14 @@ module _ (reading : Reading) (format : RecordFormat) (port : ℕ) (bytes : List 
 
   after_first : (b at : ℕ) (y : Yield) (later : List Yield) → length bytes ≤ at + b → yields b at ≡ y ∷ later → After at y later
   unfolding records_from flat_map yield_of
-  after_first zero at y later h e = let never : ◌≡◌ {A = ℕ} 0 1 = cc in absurd (omega arith)
+  after_first zero at y later h e = absurd (cc)
   after_first (suc b) at y later h e =
       let r = record_at format bytes at in
       elim (dec_le (record_end r) (length bytes)) [
         | yes k ↦
             first at r (verdict reading port (record_bytes bytes r)) (yields b (record_end r)) later y (omega arith) (rw (one_more format bytes b at k) at e)
             (λ q. after_first b (record_end r) y later (omega arith) q) (all_of_them b (record_end r) (omega arith))
-        | no k ↦ let none = rw (past format bytes (suc b) at (lt_of_not-le k)) at e in let never : ◌≡◌ {A = ℕ} 0 1 = cc in absurd (omega arith)
+        | no k ↦ let none = rw (past format bytes (suc b) at (lt_of_not-le k)) at e in absurd (cc)
       ]
 
   pub after : (at : ℕ) (y : Yield) (later : List Yield) → yields_from reading format port bytes at ≡ y ∷ later → After at y later
@@ -58,7 +58,7 @@ module _ (c : Cursor) (bytes : List ℕ) where
     where
       go : (l : List Yield) → step_to c l ≡ None → places_of l ≡ []
       go [] q = refl
-      go (y ∷ l) q = let never : ◌≡◌ {A = ℕ} 0 1 = cc in absurd (omega arith)
+      go (y ∷ l) q = absurd (cc)
 
   -- A step takes the first payload off the front. The next cursor differs in its place alone, which is further on.
   abbrev Stepped : List Yield → Place → Cursor → Type 0
@@ -69,7 +69,7 @@ module _ (c : Cursor) (bytes : List ℕ) where
   stepped p next e = go (yields_after c bytes) refl e
     where
       go : (l : List Yield) → yields_after c bytes ≡ l → step_to c l ≡ Some (p, next) → Stepped l p next
-      go [] q s = let never : ◌≡◌ {A = ℕ} 0 1 = cc in absurd (omega arith)
+      go [] q s = absurd (cc)
       go (y ∷ l) q s =
           let rest = after c.reading c.format c.port bytes c.at y l q in
           let both : ◌≡◌ {A = Place × Cursor} (y.place, moved_to c y.next) (p, next) = cc s in

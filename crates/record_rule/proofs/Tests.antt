@@ -11,14 +11,6 @@ use Rattle.record_rule.specs.Udp.{destination_port, payload_start, payload_len}
 use Rattle.record_rule.specs.Record.{asks_ihl, Verdict, first_that, ip_tests, udp_tests, payload_of, verdict}
 
 -- ---- the places that code computes
-pub type_small : (bytes : List ℕ) → type_at bytes ≤ 16
-unfolding type_at
-type_small bytes = small (eqb (unsigned_at big 2 bytes 12) 0x8100)
-  where
-    small : (b : Bool) → cond b 16 12 ≤ 16
-    small true = omega arith
-    small false = omega arith
-
 module _ (bytes : List ℕ) (at : ℕ) (e : at ≡ type_at bytes) where
   pub ether_is : unsigned_at big 2 bytes at ≡ ether_type bytes
   unfolding ether_type
@@ -58,7 +50,7 @@ module _ (reading : Reading) (port : ℕ) (bytes : List ℕ) where
 
   -- From the length on, where the EtherType stands at a place.
   module _ (at ether : ℕ) where
-    abbrev verdict_at : Verdict
+    abbrev pub verdict_at : Verdict
     verdict_at =
         first_that
         ((ShortRecord, ltb (length bytes) 42)
@@ -83,7 +75,7 @@ NoneApplies [] = Unit
 NoneApplies (test ∷ tests) = (test.1 ≡ false) × NoneApplies tests
 
 past : (why : PassedOver) (rest : Verdict) (b : Bool) (part : Part) → cond b (Err why) rest ≡ Ok part → (b ≡ false) × (rest ≡ Ok part)
-past why rest true part h = let never : ◌≡◌ {A = ℕ} 0 1 = cc in absurd (omega arith)
+past why rest true part h = absurd (cc)
 past why rest false part h = (refl, h)
 
 all_past : (tests : List (PassedOver × Bool)) (otherwise : Verdict) (part : Part) → first_that tests otherwise ≡ Ok part → NoneApplies tests × (otherwise ≡ Ok part)

@@ -105,7 +105,8 @@ fn is_other_port(bytes: &[u8], udp: usize, port: u16) -> bool
 // Where the EtherType stands: after one tag, or without one.
 fn type_at(bytes: &[u8]) -> usize
     requires { 42 ≤ length bytes.now }
-    ensures { result ≡ type_at bytes.now }
+    ensures place { result ≡ type_at bytes.now }
+    ensures near { result ≤ 16 }
 {
     let Some(first_type) = u16::read(bytes, 12, ByteOrder::Big) else {
         return 12;

@@ -1,7 +1,7 @@
 -- Laws of the records: the bound on their number is not felt, after a record that is there come the others, each lies inside the data and is the one that its
 -- header states, and code's test of a record. Assumes nothing.
 use Rattle.std.proofs.Common.{refl, sym, ap, ◌∙◌, subst, inl, inr, arith, lt_of_not-le, le-leb, ℕ, zero, suc, ◌+◌, ◌≤◌, ◌<◌, ◌≡◌, cond, List, [], ◌∷◌, leb, length, Some, None}
-use native.Mathlib.Decide.{dec_le}
+use Rattle.std.proofs.Math.Decide.{dec_le}
 use Rattle.std.proofs.lemmas.Bool.{lt-leb}
 use Rattle.record_rule.specs.declared.Record.{Record}
 use Rattle.record_rule.specs.Captured.{record_end}
@@ -85,11 +85,11 @@ module _ (format : RecordFormat) (bytes : List ℕ) (at : ℕ) where
 
   -- and back
   pub is_past : recorded_at format bytes at ≡ None → length bytes < record_end here
-  is_past e = lt_of_not-le (λ (h : record_end here ≤ length bytes). let never : ◌≡◌ {A = ℕ} 0 1 = cc (whole h) in omega arith)
+  is_past e = lt_of_not-le (λ (h : record_end here ≤ length bytes). cc (whole h))
 
   pub is_whole : (r : Record) → recorded_at format bytes at ≡ Some r → (r ≡ here) × Inside bytes r
   is_whole r e =
       elim (dec_le (record_end here) (length bytes)) [
         | yes h ↦ let is : r ≡ here = cc (whole h) in (is, rw is h)
-        | no h ↦ absurd (let never : ◌≡◌ {A = ℕ} 0 1 = cc (past_end (lt_of_not-le h)) in omega arith)
+        | no h ↦ absurd (cc (past_end (lt_of_not-le h)))
       ]

@@ -1,5 +1,5 @@
 -- `payloads::payload_as` meets its contract. What the place of the rank is, is that of the definition (`is_place`), and it lies inside the capture. Assumes nothing.
-use Rattle.std.proofs.Common.{sym, ◌∙◌, arith, rules, ℕ, ◌≡◌, ◌+◌, ◌≤◌, List, length, Option, Some, None, unwrap_or}
+use Rattle.std.proofs.Common.{sym, ◌∙◌, arith, rules, ℕ, ◌≡◌, ◌+◌, ◌≤◌, List, length, Option, Some, unwrap_or}
 use Rattle.record_rule.specs.declared.reading.Reading.{Reading}
 use Rattle.record_rule.specs.declared.time.TimeUnit.TheVariants.{Microseconds}
 use Rattle.record_rule.specs.declared.time.Timestamp.{Timestamp}
@@ -21,30 +21,30 @@ no_time_is t a b c = rw (a, b, c)
 
 pub returns-in_default-clause-contents : goal.returns-in_default-clause-contents
 returns-in_default-clause-contents c =
-    rw (← is_place c.args.reading c.args.port c.args.rank c.args.«data».now None (sym c.in_default.is ∙ c.payload_place_as.ensures))
+    rw (← is_place _ _ _ _ _ (sym c.in_default.is ∙ c.payload_place_as.ensures))
 
 pub returns-in_default-clause-place : goal.returns-in_default-clause-place
 returns-in_default-clause-place c =
-    rw (← is_place c.args.reading c.args.port c.args.rank c.args.«data».now None (sym c.in_default.is ∙ c.payload_place_as.ensures)) (search rules)
+    rw (← is_place _ _ _ _ _ (sym c.in_default.is ∙ c.payload_place_as.ensures)) (search rules)
 
 pub returns-in_default-clause-time : goal.returns-in_default-clause-time
 returns-in_default-clause-time c =
-    rw (← is_place c.args.reading c.args.port c.args.rank c.args.«data».now None (sym c.in_default.is ∙ c.payload_place_as.ensures)) (let e = c.default.ensures in no_time_is c.default.result e.0 e.1.0 e.1.1)
+    rw (← is_place _ _ _ _ _ (sym c.in_default.is ∙ c.payload_place_as.ensures)) (let e = c.default.ensures in no_time_is c.default.result e.0 e.1.0 e.1.1)
 
 pub overflow_add-end : goal.overflow_add-end
-overflow_add-end c = omega (arith, inside c.args.reading c.args.port c.args.rank c.args.«data».now c.in-Some.place (sym c.in-Some.is ∙ c.payload_place_as.ensures))
+overflow_add-end c = omega (arith, inside _ _ _ _ _ (sym c.in-Some.is ∙ c.payload_place_as.ensures))
 
 pub slice_bounds-result-end-2 : goal.slice_bounds-result-end-2
-slice_bounds-result-end-2 c = inside c.args.reading c.args.port c.args.rank c.args.«data».now c.in-Some.place (sym c.in-Some.is ∙ c.payload_place_as.ensures)
+slice_bounds-result-end-2 c = inside _ _ _ _ _ (sym c.in-Some.is ∙ c.payload_place_as.ensures)
 
 pub returns-clause-contents : goal.returns-clause-contents
 returns-clause-contents c =
-    rw (← is_place c.args.reading c.args.port c.args.rank c.args.«data».now (Some c.in-Some.place) (sym c.in-Some.is ∙ c.payload_place_as.ensures)) (part_lent c.args.«data».now c.in-Some.place)
+    rw (← is_place _ _ _ _ _ (sym c.in-Some.is ∙ c.payload_place_as.ensures)) (part_lent c.args.«data».now c.in-Some.place)
 
 pub returns-clause-place : goal.returns-clause-place
 returns-clause-place c =
-    rw (← is_place c.args.reading c.args.port c.args.rank c.args.«data».now (Some c.in-Some.place) (sym c.in-Some.is ∙ c.payload_place_as.ensures)) (search rules)
+    rw (← is_place _ _ _ _ _ (sym c.in-Some.is ∙ c.payload_place_as.ensures)) (search rules)
 
 pub returns-clause-time : goal.returns-clause-time
 returns-clause-time c =
-    rw (← is_place c.args.reading c.args.port c.args.rank c.args.«data».now (Some c.in-Some.place) (sym c.in-Some.is ∙ c.payload_place_as.ensures))
+    rw (← is_place _ _ _ _ _ (sym c.in-Some.is ∙ c.payload_place_as.ensures))

@@ -27,16 +27,16 @@ module _ (bytes : List ℕ) (first cursor : Cursor) (n : ℕ) (is : (k : ℕ) �
 
 pub returns-in_err-next : goal.returns-in_err-next
 returns-in_err-next c =
-    c.from_residual.ensures ∙ none_left c.args.«data».now c.args.cursor c.loop-passed.cursor c.loop-passed._passed c.loop-passed.invariant c.args.rank (omega arith) (sym c.in_err-next.ensures)
+    c.from_residual.ensures ∙ none_left _ _ _ _ c.loop-passed.invariant _ (omega arith) (sym c.in_err-next.ensures)
 
 pub returns-in_err-place : goal.returns-in_err-place
 returns-in_err-place c =
-    c.from_residual-in_err-place.ensures ∙ none_left c.args.«data».now c.args.cursor c.loop-passed.cursor c.loop-passed._passed c.loop-passed.invariant c.args.rank (omega arith) (sym c.in_err-place.ensures)
+    c.from_residual-in_err-place.ensures ∙ none_left _ _ _ _ c.loop-passed.invariant _ (omega arith) (sym c.in_err-place.ensures)
 
 pub loop-passed-preserved : goal.loop-passed-preserved
 loop-passed-preserved c =
-    one_more c.args.«data».now c.args.cursor c.loop-passed.cursor c.loop-passed._passed c.loop-passed.invariant c.in_ok-next.field-0-0 c.in_ok-next.next (sym c.in_ok-next.ensures)
+    one_more _ _ _ _ c.loop-passed.invariant _ _ (sym c.in_ok-next.ensures)
 
 pub returns : goal.returns
 returns c =
-    found c.args.«data».now c.args.cursor c.loop-passed.cursor c.loop-passed._passed c.loop-passed.invariant c.in_ok-place.place c.in_ok-place.field-0-1 (sym c.in_ok-place.ensures) c.args.rank (omega arith)
+    found _ _ _ _ c.loop-passed.invariant _ _ (sym c.in_ok-place.ensures) c.args.rank (omega arith)
