@@ -1,4 +1,4 @@
--- `ouster_settings::OusterSettings::are_bad_with` meets its contract: the tests are the definition's, in its order. Assumes nothing.
+-- `ouster_settings::OusterSettings::are_bad_with` meets its contract: the tests are the definition's, in its order.
 use Rattle.std.proofs.Common.{lt-ltb, le-ltb}
 use Rattle.ouster_settings.specs.Settings.{bad_settings}
 use Rattle.ouster_settings.proofs.settings.OusterSettings.are_bad_with.Goals as goal

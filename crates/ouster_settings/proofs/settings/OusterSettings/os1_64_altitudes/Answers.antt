@@ -1,4 +1,4 @@
--- `ouster_settings::OusterSettings::os1_64_altitudes` meets its contract: the bits of each literal are the definition's decimal, rounded. Assumes nothing.
+-- `ouster_settings::OusterSettings::os1_64_altitudes` meets its contract: the bits of each literal are the definition's decimal, rounded.
 use Rattle.std.proofs.Common.{refl}
 use Rattle.std.specs.Float.Ieee.{round, of_bits}
 use Rattle.ouster_settings.specs.Settings.{os1_64_elevations}

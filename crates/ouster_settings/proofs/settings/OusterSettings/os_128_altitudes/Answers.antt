@@ -1,19 +1,10 @@
--- `ouster_settings::OusterSettings::os_128_altitudes` meets its contract: each call gives the definition's elevation at its index. Assumes nothing.
-use Rattle.std.proofs.Common.{refl, arith, rules, ℕ, suc, ◌<◌, ◌≡◌, List, [], ◌∷◌, length, get_or}
+-- `ouster_settings::OusterSettings::os_128_altitudes` meets its contract: each call gives the definition's elevation at its index.
+use Rattle.std.proofs.Common.{rules, ℕ, ◌<◌, ◌≡◌, length, get_or}
 use Rattle.std.specs.Float.{nan}
 use Rattle.std.specs.Float.Ieee.{round, of_bits}
-use Rattle.points.specs.Tabulate.{tabulate}
+use Rattle.points.proofs.Lists.{table}
 use Rattle.ouster_settings.specs.Settings.{os_128_elevation, os_128_elevations}
 use Rattle.ouster_settings.proofs.settings.OusterSettings.os_128_altitudes.Goals as goal
-
--- A list is the table of its elements.
-table : {A : Type 0} (f : ℕ → A) (l : List A) (d : A) → ((i : ℕ) → i < length l → get_or l i d ≡ f i) → l ≡ tabulate (length l) f
-unfolding tabulate
-table f [] d each = refl
-table f (x ∷ l) d each =
-    let here : x ≡ f 0 = each 0 (omega arith) in
-    let rest = table (λ k. f (suc k)) l d (λ i h. each (suc i) (omega arith)) in
-    cc
 
 pub returns : goal.returns
 unfolding os_128_elevations os_128_elevation of_bits round
