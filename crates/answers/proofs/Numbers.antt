@@ -1,5 +1,5 @@
 -- A refusal tells a number that is not 0 and no points, or 10 and the points needed. `told_by` is the one list of all refusals: whoever has to know what one tells
--- goes by the two cases of `ToldBy`. Assumes nothing.
+-- goes by the two cases of `ToldBy`.
 use Rattle.std.proofs.Common.{ℕ, suc, ◌≤◌, arith, ◌≡◌, refl}
 use Rattle.answers.specs.declared.Refusal.{Refusal}
 use Rattle.answers.specs.declared.Refusal.TheVariants.{TooLong, BadSettings, TooShort, WrongMark, WrongCode, HeaderTooShort, DevicesPastEnd, NotWholeRecords, NoPayload, NoRoom, NotPlaceable, BadPulseLength, OutsideWindow}

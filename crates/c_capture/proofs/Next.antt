@@ -1,4 +1,4 @@
--- The step from a place of the walk on, by what opening gives. Assumes nothing.
+-- The step from a place of the walk on, by what opening gives.
 use Rattle.std.proofs.Common.{ne_eqb, ℕ, ◌≡◌, List, [], ◌∷◌, Option, None}
 use Rattle.points.specs.ReadInto.{first_refusal}
 use Rattle.record_rule.specs.declared.reading.Reading.{Reading}

@@ -1,5 +1,5 @@
 -- The walk for C yields the payloads in order. From the place 0 all of them are to come (`all_to_come`). A step that finds a payload takes it off the front of
--- those to come (`takes_one`), and one that finds none has none to come (`takes_none`). Assumes nothing.
+-- those to come (`takes_one`), and one that finds none has none to come (`takes_none`).
 use Rattle.std.proofs.Common.{refl, sym, ap, arith, lt_of_not-le, ne_eqb, lt-ltb, le-ltb, ℕ, ◌≤◌, ◌≡◌, Bool, true, false, true≢false, cond, List, [], ◌∷◌, eqb, ltb, Option, Some, None}
 use Rattle.std.proofs.Math.Decide.{dec_le, ℕ_discrete}
 use Rattle.points.specs.ReadInto.{first_refusal}

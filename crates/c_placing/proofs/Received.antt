@@ -1,4 +1,4 @@
--- Demand 3 of what a caller in C receives: it is what was placed, since no refusal has the number 0 (`each_case`). Assumes nothing.
+-- Demand 3 of what a caller in C receives: it is what was placed, since no refusal has the number 0 (`each_case`).
 use Rattle.std.proofs.Common.{Option, ℕ, ◌≡◌, refl, sym, ap, subst, ◌∙◌, Float}
 use Rattle.points.proofs.ReadInto.{Numbered}
 use Rattle.livox_stored.specs.Stored.{Stored}

@@ -1,6 +1,6 @@
 -- Laws that a promise rests on: each payload lies inside the data and is not empty (`all_within`), so the part that is handed back is empty exactly if the
 -- capture is refused or has no payload of that rank (`empty_if`, `empty_only_if`). They hold for any records that lie inside the data, wherever these come from,
--- for any number that the checks give, any reading and any port. Then the same of a savefile's records, and of a step. Assumes nothing.
+-- for any number that the checks give, any reading and any port. Then the same of a savefile's records, and of a step.
 use Rattle.std.proofs.Common.{refl, ap, subst, inl, inr, arith, zero-le, lt_of_not-le, length-take, length-drop, ne_eqb, ℕ, zero, suc, ◌+◌, ◌-◌, ◌≤◌, ◌<◌, ◌≡◌, ◌⊎◌, Bool, true, false, cond, List, [], ◌∷◌, ◌++◌, eqb, length, take, drop, get_or, slice_get, unwrap_or, Some, None, Ok, Err}
 use Rattle.std.proofs.Math.Decide.{dec_le, ℕ_discrete}
 use Rattle.std.proofs.lemmas.Option.{unwrap_or-slice_get}

@@ -1,4 +1,4 @@
--- Opening a capture by the file header's answer, and what an answer says of the checks. Assumes nothing.
+-- Opening a capture by the file header's answer, and what an answer says of the checks.
 use Rattle.std.proofs.Common.{refl, sym, ap, ◌∙◌, ℕ, ◌≡◌, Bool, true, false, cond, List, [], ◌∷◌, map, eqb}
 use Rattle.points.specs.ReadInto.{first_refusal}
 use Rattle.record_rule.specs.declared.reading.Reading.{Reading}

@@ -1,4 +1,4 @@
--- From a place on the walk ends, or has what the record there yields and goes on after it. Assumes nothing.
+-- From a place on the walk ends, or has what the record there yields and goes on after it.
 use Rattle.std.proofs.Common.{ap, ◌∙◌, subst, arith, ℕ, ◌+◌, ◌-◌, ◌≤◌, ◌<◌, ◌≡◌, List, [], ◌∷◌, ◌++◌, length, take, drop, Ok}
 use mathlib.Core.List.{flat_map}
 use Rattle.record_rule.specs.declared.Record.{Record}

@@ -1,5 +1,5 @@
 -- The walk by steps. After the record of a payload the walk has exactly the later payloads, and is further on (`after`), so going from cursor to cursor yields
--- the payloads in order (`step_end`, `step_payload`). Assumes nothing.
+-- the payloads in order (`step_end`, `step_payload`).
 use Rattle.std.proofs.Common.{refl, sym, ap, ◌∙◌, arith, lt_of_not-le, ℕ, zero, suc, ◌+◌, ◌≤◌, ◌<◌, ◌≡◌, List, [], ◌∷◌, ◌++◌, length, Some, None, Ok, Err}
 use Rattle.std.proofs.Math.Decide.{dec_le}
 use mathlib.Core.List.{flat_map}

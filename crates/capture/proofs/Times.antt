@@ -1,6 +1,6 @@
 -- A law that a promise rests on: the time that is told with a payload is the one that the header of its record states, for any reading and any port (`told`), by
 -- rank and by step. Each record of the walk is the one that its own header states (`stated`), and a place takes header and time from its record. Without a payload
--- the time is 0, in microseconds. Assumes nothing.
+-- the time is 0, in microseconds.
 use Rattle.std.proofs.Common.{refl, sym, ap, subst, inl, inr, arith, ℕ, ◌+◌, ◌≤◌, ◌≡◌, ◌⊎◌, List, length, Some}
 use Rattle.points.specs.ReadInto.{first_refusal}
 use Rattle.record_rule.specs.declared.Record.{Record}

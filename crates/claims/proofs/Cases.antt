@@ -1,5 +1,5 @@
 -- Each worked case holds by the definitions: antt computes what the calls of all rows tell, and finds what the rows say. Two functions that agree over a
--- list agree at each member of it, so that a new row needs no proof. Assumes nothing.
+-- list agree at each member of it, so that a new row needs no proof.
 use Rattle.std.proofs.Common.{◌≡◌, refl, List, map}
 use mathlib.Core.List.{Memᴰ}
 use Rattle.claims.specs.Call.{tell}

@@ -1,5 +1,4 @@
 -- What std's `from_le_bytes` makes of bytes is their `value`, for any count of them: by induction over how many are summed up.
--- Assumes nothing.
 use Rattle.std.proofs.Common.{◌≡◌, ℕ, zero, suc, ◌+◌, ◌*◌, ◌^◌, ◌<◌, List, length, get_or, take, drop, nat_le, if◌then◌else◌, Some, None, arith, ◌∙◌, ap, length-take-le, take_all}
 use Rattle.std.specs.Int.{sum_through, byte_worth}
 use Rattle.std.proofs.Math.Seq.{take-suc}

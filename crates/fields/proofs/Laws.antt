@@ -1,5 +1,5 @@
 -- Laws of `unsigned_at` and `field`, for either byte order. A number of two bytes that lie inside is written out (`number_two`), and one of k + k bytes is
--- made of two of k (`number_halves`). Assumes nothing.
+-- made of two of k (`number_halves`).
 use Rattle.std.proofs.Common.{◌≡◌, ℕ, zero, suc, ◌+◌, ◌*◌, ◌^◌, ◌≤◌, ◌<◌, Bool, true, if◌then◌else◌, nat_le, false, List, [], ◌∷◌, ◌++◌, reverse, length, get_or, take, drop, Option, Some, None, refl, sym, ap, ◌∙◌, arith, length-drop, drop-cons, zero-add, add_assoc, one-mul, mul-add, mul_assoc, take-add, take-take, drop-drop, length-take-le, le-leb}
 use native.Mathlib.Nat.{pow-succ'}
 use Rattle.std.proofs.lemmas.Bool.{lt-leb}

@@ -1,4 +1,4 @@
--- A reader's answer, opened where the bytes are known to lie inside: it is a number, and the one that stands there. Assumes nothing.
+-- A reader's answer, opened where the bytes are known to lie inside: it is a number, and the one that stands there.
 use Rattle.std.proofs.Common.{◌∙◌, arith, ℕ, ◌+◌, ◌≤◌, ◌≡◌, List, length, Option, Some, None}
 use Rattle.fields.specs.declared.ByteOrder.{ByteOrder}
 use Rattle.fields.specs.Number.{unsigned_at, field}

@@ -1,5 +1,5 @@
 -- std's `cast_signed` is two's complement, at any width: below the middle a number stands for itself, and from there on for
--- n - 2 ^ bits. Assumes nothing.
+-- n - 2 ^ bits.
 use Rattle.std.proofs.Common.{◌≡◌, ℕ, suc, ◌+◌, ◌-◌, ◌^◌, ◌≤◌, ◌<◌, ◌∙◌, ap, arith, to_z, inl, inr, lt-ltb, le-ltb}
 use Rattle.std.specs.Int.{Width}
 use Rattle.std.proofs.Math.Facts.{to_z-neg}

@@ -1,5 +1,5 @@
 -- Demand 3 holds of every placing. First what it needs of the definitions, a fact each: the functions' proofs hold for other numbers as well, so that a definition which says
--- otherwise is refused here, even where the code says the same. Then the claim, by what a placing comes to (`by_checks`). Assumes nothing.
+-- otherwise is refused here, even where the code says the same. Then the claim, by what a placing comes to (`by_checks`).
 use Rattle.std.proofs.Common.{◌≡◌, ℕ, ◌+◌, ◌%◌, ◌^◌, ◌<◌, ◌≤◌, false, ltb, ℤ, pos, negsuc, ◌-ℤ◌, nat_abs, sym, refl, ap, ◌∙◌, subst, true≢false, suc-ne-zero, ltb-false, ltb-true, le-ltb, Option, None, Some}
 use Rattle.std.proofs.Math.Bool.{or-false}
 use Rattle.std.proofs.Math.Dec.{leb-suc-suc}

@@ -1,4 +1,4 @@
--- A placing, check by check: the checks of a file in their order, then 11, 12 and 13, then the distance (`by_checks`). Assumes nothing.
+-- A placing, check by check: the checks of a file in their order, then 11, 12 and 13, then the distance (`by_checks`).
 use Rattle.std.proofs.Common.{◌≡◌, ℕ, zero, suc, ◌^◌, ◌<◌, ◌≤◌, Bool, true, false, ◌||◌, T, ltb, [], ℤ, pos, negsuc, sym, refl, ap, ◌∙◌, subst, le_trans, lt_of_le_of_lt, le→leb, lt→ltb, ltb-false, Float, Some, None}
 use Rattle.std.proofs.Math.Bool.{or-false}
 use Rattle.std.proofs.lemmas.Bool.{or_parts}

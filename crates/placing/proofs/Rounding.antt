@@ -1,6 +1,5 @@
 -- A distance in metres is within half a micrometre of its micrometres. It is n / 1,000,000 rounded once (`metres_is`), a multiple of 2 ^ k steps that is off by at most half
 -- of one such multiple (`near`). Below 16,000,000 micrometres k is at most 129, and 1,000,000 · 2 ^ 129 is below 2 ^ 149; at 16,000,000 nothing is rounded.
--- Assumes nothing.
 use Rattle.std.proofs.Common.{◌≡◌, ℕ, zero, suc, ◌+◌, ◌-◌, ◌*◌, ◌/◌, ◌%◌, ◌^◌, ◌<◌, ◌≤◌, Bool, true, false, cond, not, T, eqb, leb, ℤ, pos, negsuc, ◌-ℤ◌, ◌*ℤ◌, neg_ℤ, nat_abs, sym, refl, ap, ◌∙◌, subst, inl, inr, zero-le, le_trans, lt_of_le_of_lt, add-zero, le_of_lt, mod-lt, mul_assoc, mul_comm, div-lt_iff_lt-mul, eq-or-lt_of_le, mul-le-mul_left, mul-lt-mul_of_pos_right, mul-pos, lt_of_not-le, mul-zero, div-add-mod', mul-one, mul-suc, mul-add, arith, lit<, lit≤, eqb→eq, leb→le, pow_pos, pow_mono, le-ltb, lt-ltb, eq-eqb, ne_eqb, Float}
 use Prim.Native.Nat.{compare, Ordering}
 use Rattle.std.proofs.Math.Nat.{eq_of_mul-eq-mul_right}

@@ -1,4 +1,4 @@
--- Whole numbers with a sign: how large a product and a sum can be, and how 64 bits hold them. Assumes nothing.
+-- Whole numbers with a sign: how large a product and a sum can be, and how 64 bits hold them.
 use Rattle.std.proofs.Common.{ℕ, zero, suc, ◌+◌, ◌*◌, ◌<◌, ◌≤◌, ℤ, pos, negsuc, ◌+ℤ◌, ◌*ℤ◌, neg_ℤ, le_trans, le_refl, mul-le-mul, lt_of_not-le, arith, le-ltb, lt-ltb}
 use Rattle.std.proofs.Math.Decide.{dec_le}
 use Rattle.std.proofs.Math.IntN.{sub_ℕ}

@@ -1,5 +1,5 @@
 -- A difference that wraps, read with its sign, is the difference of the whole counts, where those are less than 2 ^ 31 apart: the low 32 bits of a difference are those
--- of the low 32 bits' difference (`low_difference`), and a small number is what its low 32 bits say, read with their sign (`small_signed`). Assumes nothing.
+-- of the low 32 bits' difference (`low_difference`), and a small number is what its low 32 bits say, read with their sign (`small_signed`).
 use Rattle.std.proofs.Common.{◌≡◌, ℕ, zero, suc, ◌+◌, ◌-◌, ◌%◌, ◌^◌, ◌<◌, ◌≤◌, ℤ, pos, negsuc, ◌-ℤ◌, nat_abs, ap, ◌∙◌, suc-le-suc, lt_of_not-le, arith, le-ltb, lt-ltb}
 use Rattle.std.proofs.Math.Decide.{dec_le}
 use Rattle.std.proofs.Math.IntN.{sub_ℕ, +ℤ_idr}

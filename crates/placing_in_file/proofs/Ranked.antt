@@ -1,5 +1,4 @@
 -- Placing by file and rank is placing the stored reading of that rank, where there is one; else it gives the number that says why there is none. Demand 3 follows (`both`).
--- Assumes nothing.
 use Rattle.std.proofs.Common.{◌≡◌, refl, sym, ap, ◌∙◌, ℕ, zero, suc, ◌≤◌, ◌<◌, zero-le, Bool, true, false, true≢false, cond, List, [], ◌∷◌, ◌++◌, length, slice_get, nat_le, Option, Some, None, Result, le-leb, arith}
 use Rattle.std.proofs.lemmas.Bool.{lt-leb}
 use Rattle.points.specs.ReadInto.{first_refusal}

@@ -1,4 +1,4 @@
--- Records that lie inside the data, wherever they come from. Assumes nothing.
+-- Records that lie inside the data, wherever they come from.
 use Rattle.std.proofs.Common.{ℕ, ◌≤◌, arith, ◌≡◌, ◌⊎◌, inl, inr, List, [], ◌∷◌, length, length-take, length-drop}
 use Rattle.record_rule.specs.declared.Record.{Record}
 use Rattle.record_rule.specs.Captured.{record_bytes, record_end}

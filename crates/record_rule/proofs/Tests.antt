@@ -1,4 +1,4 @@
--- The record's rule, case by case: the tests in their order, each by what the ones before it and it itself say. Assumes nothing.
+-- The record's rule, case by case: the tests in their order, each by what the ones before it and it itself say.
 use Rattle.std.proofs.Common.{refl, ap, arith, mul_comm, leb-false, lt-ltb, ℕ, ◌+◌, ◌-◌, ◌*◌, ◌/◌, ◌%◌, ◌≤◌, ◌<◌, ◌≡◌, Bool, true, false, not, ◌&&◌, cond, List, [], ◌∷◌, ◌++◌, leb, ltb, eqb, length, get_or, Ok, Err}
 use Rattle.fields.specs.Number.{big, unsigned_at}
 use Rattle.record_rule.specs.declared.reading.Reading.{Reading}

@@ -1,4 +1,4 @@
--- The file header, case by case: the checks of its length, then what the magic says (`by_magic`). Assumes nothing.
+-- The file header, case by case: the checks of its length, then what the magic says (`by_magic`).
 use Rattle.std.proofs.Common.{sym, ap, ◌∙◌, lt-ltb, le-ltb, ne_eqb, ℕ, ◌≤◌, ◌<◌, ◌≡◌, cond, not, ◌||◌, List, [], ◌∷◌, eqb, length}
 use Rattle.fields.specs.declared.ByteOrder.TheVariants.{Little, Big}
 use Rattle.fields.specs.Number.{big, unsigned_at}

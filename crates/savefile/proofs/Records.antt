@@ -1,5 +1,5 @@
 -- Laws of the records: the bound on their number is not felt, after a record that is there come the others, each lies inside the data and is the one that its
--- header states, and code's test of a record. Assumes nothing.
+-- header states, and code's test of a record.
 use Rattle.std.proofs.Common.{refl, sym, ap, ◌∙◌, subst, inl, inr, arith, lt_of_not-le, le-leb, ℕ, zero, suc, ◌+◌, ◌≤◌, ◌<◌, ◌≡◌, cond, List, [], ◌∷◌, leb, length, Some, None}
 use Rattle.std.proofs.Math.Decide.{dec_le}
 use Rattle.std.proofs.lemmas.Bool.{lt-leb}

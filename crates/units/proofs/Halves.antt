@@ -1,5 +1,5 @@
 -- A whole number becomes an f32 by its halves, h · 65536 + l. Each half is an f32 exactly, and so is the product, so only the sum rounds, as `of_int` does, from the number itself.
--- `HasValue x s a 1` says that x is a, or -a where s is true. Assumes nothing.
+-- `HasValue x s a 1` says that x is a, or -a where s is true.
 use Rattle.std.proofs.Common.{◌≡◌, refl, ◌∙◌, Bool, true, false, ℕ, zero, suc, ◌+◌, ◌-◌, ◌*◌, ◌^◌, ◌≤◌, ◌<◌, mul-pos, mul_comm, mul_assoc, mul_left_comm, mul-one, mul-add, mul-le-mul_right, le_of_lt, lt_of_le_of_lt, arith, lt-ltb, le-ltb, ℤ, pos, negsuc, neg_ℤ, ◌+ℤ◌, ◌*ℤ◌, lit<, Float}
 use Rattle.std.proofs.lemmas.Bool.{false≢true}
 use native.Mathlib.Nat.{mul-sub, mul-lt-mul_of_pos_left}

@@ -1,4 +1,4 @@
--- `c_capture::lidar_next_payload` meets its contract: it tells the step in the usual reading. Assumes nothing.
+-- `c_capture::lidar_next_payload` meets its contract: it tells the step in the usual reading.
 use Rattle.c_capture.specs.Capture.{tell_next}
 use Rattle.c_capture.proofs.lidar_next_payload.Goals as goal
 

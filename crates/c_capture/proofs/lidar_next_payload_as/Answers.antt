@@ -1,4 +1,4 @@
--- `c_capture::lidar_next_payload_as` meets its contract: it tells the step in the reading that the bool names. Assumes nothing.
+-- `c_capture::lidar_next_payload_as` meets its contract: it tells the step in the reading that the bool names.
 use Rattle.c_capture.specs.Capture.{tell_next}
 use Rattle.c_capture.proofs.lidar_next_payload_as.Goals as goal
 

@@ -1,4 +1,4 @@
--- `c_capture::number_of` meets its contract: opening gives the number of the first check that applies. Assumes nothing.
+-- `c_capture::number_of` meets its contract: opening gives the number of the first check that applies.
 use Rattle.std.proofs.Common.{ℕ, sym, ap, ◌∙◌, List}
 use Rattle.capture.specs.declared.walk.Cursor.{Cursor}
 use Rattle.capture.specs.Payloads.{opening, of_opened}

@@ -1,4 +1,4 @@
--- `c_capture::step_from` meets its contract: what opening says decides whether there is a walk, and its step from the place is given. Assumes nothing.
+-- `c_capture::step_from` meets its contract: what opening says decides whether there is a walk, and its step from the place is given.
 use Rattle.std.proofs.Common.{sym, ap, ◌∙◌}
 use Rattle.capture.specs.Payloads.{of_opened}
 use Rattle.c_capture.proofs.Next.{refused, stepped}

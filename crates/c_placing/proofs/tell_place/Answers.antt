@@ -1,4 +1,4 @@
--- `c_placing::tell_place` meets its contract: demand 3 follows from what is told (`both`). Assumes nothing.
+-- `c_placing::tell_place` meets its contract: demand 3 follows from what is told (`both`).
 use Rattle.std.proofs.Common.{Some, ap, ◌∙◌}
 use Rattle.livox_stored.specs.Stored.{of_stored_reading}
 use Rattle.placing.specs.Placing.{by_reading}

@@ -1,5 +1,4 @@
 -- `fields::f32_from_bits` meets its contract. The test tells the patterns that are a NaN's from the others (`nan_bits_above`), and 0.0 / 0.0 is the NaN.
--- Assumes nothing.
 use Rattle.std.proofs.Common.{◌≡◌, refl, sym, ◌∙◌, subst, Bool, true, not, T, Float, lt-ltb, le-ltb}
 use Rattle.std.specs.Float.Ieee.{nan, inf, fin, binary32, div, of_bits, is_nan}
 use Rattle.std.specs.Float.Ieee.Bits.{nan_bits_is, nan_bits_above}

@@ -1,4 +1,4 @@
--- `payloads::payload_as` meets its contract. What the place of the rank is, is that of the definition (`is_place`), and it lies inside the capture. Assumes nothing.
+-- `payloads::payload_as` meets its contract. What the place of the rank is, is that of the definition (`is_place`), and it lies inside the capture.
 use Rattle.std.proofs.Common.{sym, ◌∙◌, arith, rules, ℕ, ◌≡◌, ◌+◌, ◌≤◌, List, length, Option, Some, unwrap_or}
 use Rattle.record_rule.specs.declared.reading.Reading.{Reading}
 use Rattle.record_rule.specs.declared.time.TimeUnit.TheVariants.{Microseconds}

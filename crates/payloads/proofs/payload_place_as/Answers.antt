@@ -1,4 +1,4 @@
--- `payloads::payload_place_as` meets its contract: what opening says decides whether there is a walk, and the walk has the place. Assumes nothing.
+-- `payloads::payload_place_as` meets its contract: what opening says decides whether there is a walk, and the walk has the place.
 use Rattle.std.proofs.Common.{sym, ap, ◌∙◌, ne_eqb}
 use Rattle.capture.specs.Payloads.{of_opened, places_from, payloads, place_of_rank}
 use Rattle.capture.proofs.Opening.{walks, refuses}

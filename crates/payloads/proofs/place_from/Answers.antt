@@ -1,5 +1,5 @@
 -- `payloads::place_from` meets its contract. The loop's invariant: the places from the cursor reached are those from the first one, without as many as are
--- passed. A step takes one place off the front (`step_payload`). Assumes nothing.
+-- passed. A step takes one place off the front (`step_payload`).
 use Rattle.std.proofs.Common.{sym, ◌∙◌, arith, ℕ, suc, ◌+◌, ◌-◌, ◌≤◌, ◌≡◌, List, slice_get, Some, None}
 use Rattle.capture.specs.declared.walk.Cursor.{Cursor}
 use Rattle.capture.specs.declared.walk.Place.{Place}

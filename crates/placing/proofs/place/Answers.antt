@@ -1,4 +1,4 @@
--- `placing::place` meets its contract: the kinds' readings times their micrometres, which 64 bits hold, and 11 for the others. Demand 3 follows (`both`). Assumes nothing.
+-- `placing::place` meets its contract: the kinds' readings times their micrometres, which 64 bits hold, and 11 for the others. Demand 3 follows (`both`).
 use Rattle.std.proofs.Common.{◌≡◌, ℕ, [], ℤ, pos, ◌*ℤ◌, sym, refl, ap, ◌∙◌, arith, w16, w32, w64, Option, None, Some}
 use Rattle.std.proofs.lemmas.Int.{to_z-of_z}
 use Rattle.points.specs.ReadInto.{first_refusal}

@@ -1,5 +1,4 @@
 -- `placing::place_along` meets its contract: the checks in their order (`Checks`), the exact micrometres in 64 bits, and inside the window a cast that loses nothing.
--- Assumes nothing.
 use Rattle.std.proofs.Common.{◌≡◌, ◌^◌, ◌<◌, false, ℤ, pos, ◌+ℤ◌, ◌*ℤ◌, sym, ap, ◌∙◌, arith, lit≤, w32, w64, SFits, to_z, of_z}
 use Rattle.std.specs.Int.Signed.{mag}
 use Rattle.std.specs.Float.Ieee.{of_bits, round}

@@ -1,4 +1,4 @@
--- `placing::pulses` meets its contract: the wrapped difference, read with its sign. Assumes nothing.
+-- `placing::pulses` meets its contract: the wrapped difference, read with its sign.
 use Rattle.std.proofs.Common.{ap, ◌∙◌, w32, refl, arith}
 use Rattle.std.proofs.lemmas.Int.{to_z-of_z}
 use Rattle.fields.specs.Signed.{signed}

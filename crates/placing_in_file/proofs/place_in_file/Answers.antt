@@ -1,4 +1,4 @@
--- `placing_in_file::place_in_file` meets its contract: what is placed is the answer of `stored_reading`, case by case (`answered`). Assumes nothing.
+-- `placing_in_file::place_in_file` meets its contract: what is placed is the answer of `stored_reading`, case by case (`answered`).
 use Rattle.std.proofs.Common.{Ok, Err}
 use Rattle.std.proofs.lemmas.Result.{err_from_is_err_and}
 use Rattle.placing_in_file.proofs.Ranked.{answered}

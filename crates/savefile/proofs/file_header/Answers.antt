@@ -1,4 +1,4 @@
--- `savefile::file_header` meets its contract: each way out is a case of the table of checks, or what its magic says. Assumes nothing.
+-- `savefile::file_header` meets its contract: each way out is a case of the table of checks, or what its magic says.
 use Rattle.std.proofs.Common.{sym, ◌∙◌, arith, ℕ, ◌≡◌, ◌≤◌, List, length, Some}
 use Rattle.std.proofs.lemmas.Result.{err_from_is_err_and}
 use Rattle.fields.specs.Number.{big, unsigned_at, field}

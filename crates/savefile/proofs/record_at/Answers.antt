@@ -1,4 +1,4 @@
--- `savefile::record_at` meets its contract. Taking off the length what is known to fit asks the same as the sum of the definition. Assumes nothing.
+-- `savefile::record_at` meets its contract. Taking off the length what is known to fit asks the same as the sum of the definition.
 use Rattle.std.proofs.Common.{sym, ◌∙◌, arith, ℕ, ◌≡◌, ◌+◌, ◌≤◌, List, length, Option, Some}
 use Rattle.fields.specs.Number.{field}
 use Rattle.fields.proofs.Opened.{is_number, never_missing}

@@ -1,4 +1,4 @@
--- `savefile::time_at` meets its contract. The header lies inside, so both numbers are there. Assumes nothing.
+-- `savefile::time_at` meets its contract. The header lies inside, so both numbers are there.
 use Rattle.std.proofs.Common.{sym, ◌∙◌, arith, ◌≡◌, ◌+◌}
 use Rattle.fields.specs.Number.{unsigned_at}
 use Rattle.fields.proofs.Opened.{is_number, never_missing}

@@ -1,4 +1,4 @@
--- `units::i32_to_f32` meets its contract: `halves` at n / 65536, rounded down, and the lower sixteen of n's bits. Assumes nothing.
+-- `units::i32_to_f32` meets its contract: `halves` at n / 65536, rounded down, and the lower sixteen of n's bits.
 use Rattle.std.proofs.lemmas.Int.{to_z-of_z, to_z_pos}
 use Rattle.std.proofs.Common.{◌≡◌, ◌∙◌, ap, ◌/◌, ◌%◌, suc, ◌*◌, div-add-mod', arith, ℤ, pos, negsuc, ◌+ℤ◌, ◌*ℤ◌, bit_and, w16, w32, SFits, of_z, to_z}
 use lib.Signed.{shr_z, mag_shr}

@@ -1,4 +1,4 @@
--- `units::u32_to_f32` meets its contract: `halves` at n / 65536 and n % 65536. Assumes nothing.
+-- `units::u32_to_f32` meets its contract: `halves` at n / 65536 and n % 65536.
 use Rattle.std.proofs.Common.{◌∙◌, ap, ℕ, ◌/◌, ◌%◌, div-add-mod', arith, pos}
 use Rattle.std.specs.Float.Ieee.{binary32, of_int}
 use Rattle.units.proofs.Halves.{halves}

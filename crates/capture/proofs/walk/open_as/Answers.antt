@@ -1,4 +1,4 @@
--- `capture::open_as` meets its contract: it opens by the file header's answer (`by_header`). Assumes nothing.
+-- `capture::open_as` meets its contract: it opens by the file header's answer (`by_header`).
 use Rattle.std.proofs.Common.{sym, ap, ◌∙◌, rules, ◌≡◌, Err}
 use Rattle.savefile.specs.Headers.{of_file_header}
 use Rattle.savefile.proofs.Header.{format_told}

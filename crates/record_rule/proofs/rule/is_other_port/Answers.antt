@@ -1,4 +1,4 @@
--- `record_rule::is_other_port` meets its contract. The bytes lie inside, so the number read is the port that stands there. Assumes nothing.
+-- `record_rule::is_other_port` meets its contract. The bytes lie inside, so the number read is the port that stands there.
 use Rattle.std.proofs.Common.{sym, ◌∙◌, arith, ne_eqb, ◌≡◌, ◌+◌}
 use Rattle.fields.specs.Number.{big, unsigned_at}
 use Rattle.fields.proofs.Opened.{is_number, never_missing}

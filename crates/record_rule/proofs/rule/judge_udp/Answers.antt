@@ -1,4 +1,4 @@
--- `record_rule::judge_udp` meets its contract. What code computes are the definition's places (`told_is`), and each way out is the first test that applies. Assumes nothing.
+-- `record_rule::judge_udp` meets its contract. What code computes are the definition's places (`told_is`), and each way out is the first test that applies.
 use Rattle.std.proofs.Common.{sym, ◌∙◌, lt-ltb, le-ltb, le-leb}
 use Rattle.std.proofs.lemmas.Bool.{lt-leb}
 use Rattle.record_rule.specs.Record.{first_that}

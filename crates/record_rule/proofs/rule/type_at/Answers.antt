@@ -1,4 +1,4 @@
--- `record_rule::type_at` meets its contract. The EtherType at 12 tells whether there is a tag. Assumes nothing.
+-- `record_rule::type_at` meets its contract. The EtherType at 12 tells whether there is a tag.
 use Rattle.std.proofs.Common.{sym, ◌∙◌, arith, eq-eqb, ne_eqb, ◌≡◌}
 use Rattle.fields.specs.Number.{big, unsigned_at}
 use Rattle.fields.proofs.Opened.{is_number, never_missing}

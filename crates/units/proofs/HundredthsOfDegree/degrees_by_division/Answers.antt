@@ -1,4 +1,4 @@
--- `units::HundredthsOfDegree::degrees_by_division` meets its contract: the literal's bits are 100.0. Assumes nothing.
+-- `units::HundredthsOfDegree::degrees_by_division` meets its contract: the literal's bits are 100.0.
 use Rattle.std.proofs.Common.{refl}
 use Rattle.std.specs.Float.Ieee.{round, of_bits}
 use Rattle.units.specs.Conversions.{degrees_by_division}

@@ -1,4 +1,4 @@
--- `units::Millimetres::metres` meets its contract: the literal's bits are 1000.0. Assumes nothing.
+-- `units::Millimetres::metres` meets its contract: the literal's bits are 1000.0.
 use Rattle.std.proofs.Common.{rules}
 use Rattle.std.specs.Float.Ieee.{round, of_bits}
 use Rattle.units.specs.Conversions.{metres_of_millimetres}

@@ -1,4 +1,4 @@
--- `units::TenMillimetres::metres` meets its contract: the literal's bits are 0.01, rounded. Assumes nothing.
+-- `units::TenMillimetres::metres` meets its contract: the literal's bits are 0.01, rounded.
 use Rattle.std.proofs.Common.{rules}
 use Rattle.std.specs.Float.Ieee.{round, of_bits}
 use Rattle.units.specs.Conversions.{metres_of_ten_millimetres}

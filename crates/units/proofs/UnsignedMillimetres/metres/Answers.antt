@@ -1,4 +1,4 @@
--- `units::UnsignedMillimetres::metres` meets its contract: the literal's bits are 1000.0. Assumes nothing.
+-- `units::UnsignedMillimetres::metres` meets its contract: the literal's bits are 1000.0.
 use Rattle.std.specs.Float.Ieee.{round, of_bits}
 use Rattle.units.specs.Conversions.{metres_of_millimetres}
 use Rattle.units.proofs.UnsignedMillimetres.metres.Goals as goal

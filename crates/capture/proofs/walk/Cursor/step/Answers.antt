@@ -1,5 +1,5 @@
 -- `capture::Cursor::step` meets its contract. The loop's invariant: from the place reached the walk yields what it yields from the cursor on. A record that is
--- passed over moves the place after it, and a payload is the first of them. Assumes nothing.
+-- passed over moves the place after it, and a payload is the first of them.
 use Rattle.std.proofs.Common.{sym, ap, ◌∙◌, arith, ℕ, ◌+◌, ◌-◌, ◌≤◌, ◌<◌, ◌≡◌, List, ◌++◌, take, drop, Some, Ok}
 use Rattle.record_rule.specs.declared.Record.{Record}
 use Rattle.record_rule.specs.declared.rule.Part.{Part}

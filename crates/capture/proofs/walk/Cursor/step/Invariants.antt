@@ -1,5 +1,5 @@
 -- `capture::Cursor::step` meets its contract. The loop's invariant: from the place reached the walk yields what it yields from the cursor on. A record that is
--- passed over moves the place after it, and a payload is the first of them. Assumes nothing.
+-- passed over moves the place after it, and a payload is the first of them.
 use Rattle.std.proofs.Common.{◌-◌, ◌≡◌, length}
 use Rattle.capture.specs.Payloads.{yields_from}
 use Rattle.capture.proofs.walk.Cursor.step.Given as goal
