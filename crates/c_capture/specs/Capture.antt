@@ -2,22 +2,11 @@
 use Rattle.std.specs.Prelude.{ℕ, Bool, true, false, cond, List, ltb, eqb, Option, Some, None}
 use Rattle.points.specs.ReadInto.{first_refusal}
 use Rattle.record_rule.specs.declared.reading.Reading.{Reading}
-use Rattle.record_rule.specs.declared.time.TimeUnit.{TimeUnit}
-use Rattle.record_rule.specs.declared.time.TimeUnit.TheVariants.{Microseconds, Nanoseconds}
-use Rattle.record_rule.specs.declared.time.Timestamp.{Timestamp}
+use Rattle.record_rule.specs.Time.{time_numbers}
 use Rattle.capture.specs.declared.walk.Cursor.{Cursor}
 use Rattle.capture.specs.declared.walk.Place.{Place}
 use Rattle.savefile.specs.Savefile.{checks}
 use Rattle.capture.specs.Payloads.{nowhere, place_of, start_cursor, moved_to, step_of}
-
--- A unit as a number.
-abbrev pub unit_number : TimeUnit → ℕ
-unit_number Microseconds = 0
-unit_number Nanoseconds = 1
-
--- A time as three numbers: seconds, fraction, unit.
-abbrev pub time_numbers : Timestamp → ℕ × ℕ × ℕ
-time_numbers t = (t.seconds, t.fraction, unit_number t.unit)
 
 -- What is told of a payload: its start, its length, and the numbers of its time.
 pub data PayloadTold : Type 0 where

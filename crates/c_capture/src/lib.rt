@@ -1,4 +1,5 @@
-// Captures, as include/lidar.h declares the calls. What they tell of a payload goes out by reference.
+// Captures, as include/lidar.h declares the calls. What they tell of a payload goes out by reference, number by
+// number, as C has it.
 
 #![tactic(auto)]
 
@@ -8,10 +9,10 @@ ghost use Rattle.record_rule.specs.Reading.{usual};
 ghost use Rattle.savefile.specs.Savefile.{checks};
 ghost use Rattle.c_form.specs.Reading.{reading_of};
 ghost use Rattle.capture.specs.Payloads.{nowhere};
-ghost use Rattle.c_capture.specs.Capture.{unit_number, time_numbers, payload_told, tell_payload, tell_place, moved_on, step_from, tell_step, tell_next};
+ghost use Rattle.c_capture.specs.Capture.{payload_told, tell_payload, tell_place, moved_on, step_from, tell_step, tell_next};
 
 use c_form::reading_of;
-use capture::{Cursor, Place, Reading, TimeUnit, Timestamp};
+use capture::{Cursor, Place, Reading, Timestamp};
 
 #[unsafe(no_mangle)]
 pub extern "C" fn lidar_payload_place_as(
@@ -156,29 +157,12 @@ fn tell_payload(
         Some(place) => {
             *start = place.start;
             *len = place.len;
-            tell_time(place.time, seconds, fraction, unit);
+            place.time.tell(seconds, fraction, unit);
         }
         None => {
             *start = 0;
             *len = 0;
-            tell_time(Timestamp::default(), seconds, fraction, unit);
+            Timestamp::default().tell(seconds, fraction, unit);
         }
-    }
-}
-
-fn tell_time(time: Timestamp, seconds: &mut u32, fraction: &mut u32, unit: &mut u8)
-    ensures { (seconds.new, fraction.new, unit.new) ≡ time_numbers time }
-{
-    *seconds = time.seconds;
-    *fraction = time.fraction;
-    *unit = unit_number(time.unit);
-}
-
-fn unit_number(unit: TimeUnit) -> u8
-    ensures { result ≡ unit_number unit }
-{
-    match unit {
-        TimeUnit::Microseconds => 0,
-        TimeUnit::Nanoseconds => 1,
     }
 }

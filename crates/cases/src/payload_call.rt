@@ -23,7 +23,7 @@ pub(crate) fn tell<R: Eprint, W: Write>(out: &mut Console<'_, R, W>, case: &Case
     out.print_next(payload.bytes.len());
     out.print_next(payload.time.seconds);
     out.print_next(payload.time.fraction);
-    out.print_next(payload.time.unit as u8);
+    out.print_next(payload.time.unit.number());
     out.write(b" ");
     for byte in payload.bytes {
         out.print(format_args!("{byte:02x}"));
