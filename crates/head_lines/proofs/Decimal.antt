@@ -15,11 +15,11 @@ steps_enough (suc s) (suc t) n h g = by_test (ltb n 10) refl (λ l. steps_enough
   by_test true e again = refl
   by_test false e again = rw (again (ltb-false n 10 e))
 
-one : (n : ℕ) → n < 10 → decimal n ≡ (48 + n) ∷ []
+pub one : (n : ℕ) → n < 10 → decimal n ≡ (48 + n) ∷ []
 unfolding decimal decimal_in
 one n h = let is : n % 10 ≡ n = omega arith in rw (lt-ltb n 10 h, is)
 
-more : (n : ℕ) → 10 ≤ n → decimal n ≡ decimal (n / 10) ++ (48 + n % 10) ∷ []
+pub more : (n : ℕ) → 10 ≤ n → decimal n ≡ decimal (n / 10) ++ (48 + n % 10) ∷ []
 unfolding decimal decimal_in
 more n h = rw (le-ltb n 10 h, steps_enough n (suc (n / 10)) (n / 10) (omega arith) (omega arith))
 
