@@ -1,5 +1,5 @@
-// Placing a point on the belt, as include/lidar.h declares the calls. What they do stands in c_placing, which
-// other crates use too: no crate can use a static library.
+// Placing a point on the belt, as include/lidar.h declares the calls. What they do stands in c_placing, of which
+// c_rank uses a part too: no crate can use a static library. So each call is there and, exported to C, here.
 
 #![tactic(auto)]
 

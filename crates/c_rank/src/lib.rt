@@ -77,6 +77,7 @@ fn form_of_flag(lvx2: bool) -> Form
     if lvx2 { Form::Lvx2 } else { Form::Lvx }
 }
 
+// C has no enum with values: a number says the kind, and three its numbers.
 fn tell(reading: StoredReading, stored: &mut u8, first: &mut i64, second: &mut i64, third: &mut i64)
     ensures { stored_numbers stored.new first.new second.new third.new ≡ tell_stored (Some (of_stored_reading reading)) }
 {

@@ -62,7 +62,8 @@ impl Cursor {
         let reading = self.reading;
         let format = self.format;
         let mut at = self.at;
-        // No index: each record's stated length says where the next one stands.
+        // No index: each record's stated length says where the next one stands. And no iterator: a caller keeps
+        // the cursor between calls, as C does.
         loop {
             let record = savefile::record_at(data, at, format)?;
             let body = record.body;

@@ -29,6 +29,7 @@ pub trait Field: Copy {
         ensures { result ≡ field of_unsigned order width «data».now off };
 }
 
+// A body for each width: Rattle takes no const argument that is computed, as the width of a type would be.
 impl Field for u16 {
     ghost width = { 2 };
 

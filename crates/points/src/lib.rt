@@ -1,4 +1,5 @@
-// What every reader hands over: points, laid into lent slices, and an answer.
+// What every reader hands over: points, laid into lent slices, and an answer. There are two slices, of numbers
+// and of kinds, since C lends them so.
 
 #![tactic(auto)]
 

@@ -46,7 +46,8 @@ pub struct BeltPulses(pub i32);
 // The f32 with bits 0x40C90FDB.
 const TAU: f32 = 6.2831855;
 
-// The f32 nearest to n. The halves and the product are exact, so that only the sum rounds.
+// The f32 nearest to n, by the sum that the scope names, for u32 and for i32. The halves and the product are
+// exact, so that only the sum rounds.
 pub fn u32_to_f32(n: u32) -> f32
     ensures { result ≡ of_int binary32 (pos n) }
 {
