@@ -5,23 +5,20 @@
 ghost use Rattle.std.specs.Prelude.{Some};
 ghost use Rattle.head_lines.specs.HeadLines.{head_line, refusal_line};
 
-use answers::Refusal;
+use answers::{Counts, Refusal};
 use std::fmt;
 use std::fmt::Display;
 
 // The first line of what was read.
 #[derive(Clone, Copy, Drop)]
-pub struct HeadLine {
-    pub points: usize,
-    pub frames: usize,
-}
+pub struct HeadLine(pub Counts);
 
 impl Display for HeadLine {
-    ghost output = { λ line. Some (head_line line.points line.frames) };
+    ghost output = { λ line. Some (head_line line.0.points line.0.frames) };
 
     fn fmt<W: fmt::Write>(&self, f: &mut fmt::Formatter<W>) -> fmt::Result {
-        let points = self.points;
-        let frames = self.frames;
+        let points = self.0.points;
+        let frames = self.0.frames;
         write!(f, "points {points} frames {frames}\n")
     }
 }

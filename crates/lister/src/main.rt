@@ -2,7 +2,7 @@
 
 #![tactic(auto)]
 
-ghost use Rattle.std.specs.Prelude.{◌≡◌, ◌≤◌};
+ghost use Rattle.std.specs.Prelude.{◌≡◌};
 ghost use Rattle.points.specs.ReadInto.{answered};
 ghost use Rattle.livox_header.specs.Header.{form_of};
 ghost use Rattle.livox_file.specs.Livox.{read_livox_bits};
@@ -29,9 +29,9 @@ fn list<R: Eprint, W: Write>(out: &mut Console<'_, R, W>, data: &[u8]) {
     let mut bits = [0u32; 12288];
     let mut kinds = [0u8; 4096];
     match read(data, &mut bits, &mut kinds) {
-        Ok(Counts { points, frames }) => {
-            if out.print(HeadLine { points, frames }) {
-                list_points(out, points, &bits, &kinds);
+        Ok(counts) => {
+            if out.print(HeadLine(counts)) {
+                list_points(out, &bits, &kinds[..counts.points]);
             }
         }
         Err(refusal) => {
@@ -48,16 +48,9 @@ fn read(data: &[u8], bits: &mut [u32], kinds: &mut [u8]) -> Result<Counts, Refus
     livox::read_livox(livox_header::form_of(data), data, bits, kinds)
 }
 
-// A line for each point. The reader's contract is why there are at most 4,096: what was read had room.
-fn list_points<R: Eprint, W: Write>(
-    out: &mut Console<'_, R, W>,
-    points: usize,
-    bits: &[u32; 12288],
-    kinds: &[u8; 4096],
-)
-    requires { points ≤ 4096 }
-{
-    for (kind, numbers) in kinds.iter().zip(bits.chunks_exact(3)).take(points) {
+// A line for each point, with the three numbers that lie at its kind's place.
+fn list_points<R: Eprint, W: Write>(out: &mut Console<'_, R, W>, bits: &[u32], kinds: &[u8]) {
+    for (kind, numbers) in kinds.iter().zip(bits.chunks_exact(3)) {
         let line = point_lines::point_line(*kind, numbers[0], numbers[1], numbers[2]);
         if !out.write(&line) {
             return;

@@ -1,7 +1,11 @@
--- What was read had room, by the reader's contract.
+-- What was read had room, by the reader's contract: the cut lies inside.
 use Rattle.std.proofs.Common.{arith}
+use Rattle.std.proofs.lemmas.List.{length-take-le}
 use Rattle.lister.proofs.Room.{points_fit}
 use Rattle.lister.proofs.list.Goals as goal
 
-pub list_points-requires : goal.list_points-requires
-list_points-requires g c = omega (arith, c.in-Ok.points-is, points_fit _ _ _ _ c.in-Ok.field-0 c.in-Ok.ensures)
+pub slice_bounds-kinds-end : goal.slice_bounds-kinds-end
+slice_bounds-kinds-end g c = omega (arith, points_fit _ _ _ _ c.in-Ok.counts c.in-Ok.ensures, c.read.auto.kinds)
+
+pub slice_bounds-list_points-end-then-print : goal.slice_bounds-list_points-end-then-print
+slice_bounds-list_points-end-then-print g c = omega (arith, points_fit _ _ _ _ c.in-Ok.counts c.in-Ok.ensures, c.read.auto.kinds, length-take-le c.in-Ok.counts.points c.read.new.kinds)
