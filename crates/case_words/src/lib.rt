@@ -117,8 +117,8 @@ fn tail(text: &[u8]) -> &[u8]
     text.get(1..).unwrap_or(&[])
 }
 
-// The first len bytes, or all of them.
-pub fn front(space: &[u8], len: u64) -> &[u8]
+// The first len elements, or all of them.
+pub fn front<T>(space: &[T], len: u64) -> &[T]
     ensures { result.now ≡ take len space.now }
 {
     space.get(..len as usize).unwrap_or(space)

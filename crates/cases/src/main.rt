@@ -54,7 +54,7 @@ impl Calls for FileCalls {
             b"velodyne" => readers::tell_velodyne(out, case, data),
             b"ouster" => {
                 let altitudes = parameters::halves();
-                let altitudes = parameters::front(&altitudes, case.number(8));
+                let altitudes = case_words::front(&altitudes, case.number(8));
                 readers::tell_ouster(out, case, data, parameters::settings(case), altitudes);
             }
             b"os1-64" => {

@@ -4,6 +4,7 @@ ghost use Rattle.std.specs.Prelude.{◌≤◌};
 
 use case_words::Case;
 use lidar::{OusterSettings, Reading};
+use std::array;
 
 // There is room for eight points at most.
 pub(crate) fn room(case: &Case<'_>) -> usize
@@ -35,16 +36,5 @@ pub(crate) fn settings(case: &Case<'_>) -> OusterSettings {
 
 // Half of each channel's number.
 pub(crate) fn halves() -> [f32; 129] {
-    let mut altitudes = [0.0; 129];
-    let mut next: f32 = 0.0;
-    for altitude in altitudes.iter_mut() {
-        *altitude = next;
-        next += 0.5;
-    }
-    altitudes
-}
-
-// The first n elevations, or all of them.
-pub(crate) fn front(altitudes: &[f32], n: u64) -> &[f32] {
-    altitudes.get(..n as usize).unwrap_or(altitudes)
+    array::from_fn(|channel| channel as f32 / 2.0)
 }
