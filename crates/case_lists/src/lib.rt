@@ -14,8 +14,8 @@ pub trait Calls {
     // Runs a list of cases, a line for each.
     fn run<R: Eprint, W: Write, I: Read>(&self, out: &mut Console<'_, R, W>, input: &mut I) {
         let mut space = case_words::list_buffer();
-        if let Some(len) = out.read_whole(input, &mut space) {
-            self.run_lines(out, &space[..len]);
+        if let Some(text) = out.read_whole(input, &mut space) {
+            self.run_lines(out, text);
         }
     }
 

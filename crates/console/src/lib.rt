@@ -3,7 +3,7 @@
 
 #![tactic(auto)]
 
-ghost use Rattle.std.specs.Prelude.{◌≡◌, ◌≤◌, ◌∷◌, IfSome, is_ok, length, take};
+ghost use Rattle.std.specs.Prelude.{◌≡◌, ◌≤◌, ◌∷◌, IfSome, is_ok, length};
 ghost use Rattle.std.specs.Bool.{OnTrue};
 ghost use Rattle.std.specs.Io.KnownBytes.{Appends, Consumes, IsAtEnd};
 
@@ -22,15 +22,15 @@ pub struct Console<'a, R, W> {
 }
 
 impl<'a, R: Eprint, W: Write> Console<'a, R, W> {
-    // Reads all of standard input, and answers how many bytes it put at the front of buf. Where it
-    // can't, it says why.
-    pub fn read_whole<I: Read>(&mut self, input: &mut I, buf: &mut [u8]) -> Option<usize>
-        ensures within { IfSome result (λ len. len ≤ length buf.new) }
-        ensures bytes { IfSome result (λ len. Consumes (I.remaining input.old) (I.remaining input.new) (take len buf.new)) }
+    // Reads all of standard input into the front of buf, and answers the bytes. Where it can't, it says
+    // why.
+    pub fn read_whole<'b, I: Read>(&mut self, input: &mut I, buf: &'b mut [u8]) -> Option<&'b [u8]>
+        ensures within { IfSome result (λ bytes. length bytes.now ≤ length buf.old) }
+        ensures bytes { IfSome result (λ bytes. Consumes (I.remaining input.old) (I.remaining input.new) bytes.now) }
         ensures end { IfSome result (λ _. IsAtEnd (I.remaining input.new)) }
     {
         match input::read_whole(input, buf) {
-            Ok(len) => Some(len),
+            Ok(bytes) => Some(bytes),
             Err(Unread::TooLong) => {
                 self.write(b"too long\n");
                 None

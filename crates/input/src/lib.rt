@@ -18,17 +18,17 @@ pub enum Unread {
     Failed(io::Error),
 }
 
-// Reads all of an input, and answers how many bytes it put at the front of buf.
-pub fn read_whole<R: Read>(reader: &mut R, buf: &mut [u8]) -> Result<usize, Unread>
-    ensures within { IfOk result (λ len. len ≤ length buf.new) }
-    ensures bytes { IfOk result (λ len. Consumes (R.remaining reader.old) (R.remaining reader.new) (take len buf.new)) }
+// Reads all of an input into the front of buf, and answers the bytes.
+pub fn read_whole<'a, R: Read>(reader: &mut R, buf: &'a mut [u8]) -> Result<&'a [u8], Unread>
+    ensures within { IfOk result (λ bytes. length bytes.now ≤ length buf.old) }
+    ensures bytes { IfOk result (λ bytes. Consumes (R.remaining reader.old) (R.remaining reader.new) bytes.now) }
     ensures end { IfOk result (λ _. IsAtEnd (R.remaining reader.new)) }
 {
     let len = read_full(reader, buf);
     let mut next = [0u8; 1];
     let more = reader.read(&mut next);
     ended(len, buf.len(), more)?;
-    Ok(len)
+    Ok(&buf[..len])
 }
 
 // Reads until buf is full, the input ends or a read fails, and answers how many bytes it put at the

@@ -20,8 +20,8 @@ fn main(rt: HostRuntime) {
         out: io::writer(&rt),
     };
     let mut space = [0u8; 65536];
-    if let Some(len) = out.read_whole(&mut rt.stdin(), &mut space) {
-        list(&mut out, &space[..len]);
+    if let Some(data) = out.read_whole(&mut rt.stdin(), &mut space) {
+        list(&mut out, data);
     }
 }
 

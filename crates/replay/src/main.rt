@@ -60,7 +60,7 @@ fn replay_file<R: Runtime, W: Write, F: Read>(
 ) -> bool {
     let mut space = [0u8; 65536];
     match input::read_whole(file, &mut space) {
-        Ok(len) => show(out, name, &space[..len]),
+        Ok(data) => show(out, name, data),
         Err(Unread::TooLong) => out.print(name) && out.write(b" too long\n"),
         Err(Unread::Failed(error)) => {
             fail(out.rt, name, error);
