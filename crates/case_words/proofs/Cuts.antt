@@ -1,8 +1,9 @@
 -- The first piece of a text reaches to the first byte that ends one, and the other pieces are those of what follows it.
-use Rattle.std.proofs.Common.{ℕ, zero, suc, ◌≤◌, ◌≡◌, ◌≢◌, refl, Bool, true, false, List, [], ◌∷◌, length, take, drop, get_or, ap, ◌∙◌, add-one, one-add, ltb-false, arith, ◌==◌, not, nat_lt, Option, Some, None, slice_get, unwrap_or, option_map, position, Bor}
+use Rattle.std.proofs.Common.{ℕ, suc, ◌≤◌, ◌≡◌, ◌≢◌, refl, Bool, true, false, List, [], ◌∷◌, length, take, drop, get_or, ap, ◌∙◌, add-one, one-add, ltb-false, arith, ◌==◌, not, nat_lt, Option, Some, None, slice_get, unwrap_or, option_map, position, Bor}
 use Rattle.std.specs.List.{position_or_len}
 use Rattle.std.proofs.lemmas.List.{drop-drop}
 use Rattle.std.proofs.lemmas.List.Sums.{prefix_len-le-length}
+use Rattle.std.proofs.lemmas.Option.{unwrap_or-slice_get}
 use Rattle.case_words.specs.Words.{index_of, joined, pieces_of}
 
 -- The pieces of a text that starts with b, by whether b ends one.
@@ -32,12 +33,7 @@ or_len p xs = by_test (nat_lt (position_or_len p xs) (length xs)) refl where
 
 -- The piece of a rank, or what stands where there is none.
 pub ranked : (r : Option (Bor (List ℕ))) (none : Bor (List ℕ)) (pieces : List (List ℕ)) (rank : ℕ) → option_map (λ piece. piece.now) r ≡ slice_get pieces rank → none.now ≡ [] → (unwrap_or r none).now ≡ get_or pieces rank []
-ranked r none pieces rank e n = now_of r none n ∙ ap (λ o. unwrap_or o []) e ∙ got pieces rank where
+ranked r none pieces rank e n = now_of r none n ∙ ap (λ o. unwrap_or o []) e ∙ unwrap_or-slice_get pieces rank [] where
   now_of : (r : Option (Bor (List ℕ))) (none : Bor (List ℕ)) → none.now ≡ [] → (unwrap_or r none).now ≡ unwrap_or (option_map (λ piece. piece.now) r) []
   now_of None none n = n
   now_of (Some piece) none n = refl
-
-  got : (pieces : List (List ℕ)) (rank : ℕ) → unwrap_or (slice_get pieces rank) [] ≡ get_or pieces rank []
-  got [] rank = refl
-  got (piece ∷ pieces) zero = refl
-  got (piece ∷ pieces) (suc rank) = got pieces rank

@@ -1,6 +1,6 @@
 -- The bytes of hexadecimal digits by the pairs of them, and the place and bytes of a word.
 use Rattle.std.proofs.Common.{ℕ, suc, ◌+◌, ◌<◌, ◌≤◌, ◌≡◌, refl, ◌∙◌, ap, List, [], ◌∷◌, ◌++◌, length, take, drop, get_or, set, min, arith, add-one, length-append}
-use Rattle.std.proofs.lemmas.List.{drop-drop}
+use Rattle.std.proofs.lemmas.List.{drop-drop, nil_from_length}
 use Rattle.std.proofs.lemmas.List.Edits.{sets}
 use Rattle.case_words.specs.Words.{index_of, byte_of, bytes_of, laid, decimal_value}
 
@@ -19,10 +19,6 @@ alone [] short = refl
 alone (high ∷ []) short = refl
 alone (high ∷ low ∷ digits) short = absurd (omega arith)
 
-nothing : (digits : List ℕ) → length digits ≡ 0 → digits ≡ []
-nothing [] e = refl
-nothing (digit ∷ digits) e = absurd (omega arith)
-
 module _ (at i i' : ℕ) (bytes whole digits rest : List ℕ) (pair : List ℕ) (cut : digits ≡ pair ++ rest) (next : i' ≡ i + 1) (is : sets bytes (at + i) (bytes_of digits) ≡ whole) where
   -- The byte of two digits is stored, and those after it are left.
   pub stored : 2 ≤ length pair → length pair < 3 → {byte : ℕ} {bytes' : List ℕ} → byte ≡ byte_of (get_or pair 0 0) (get_or pair 1 0) → bytes' ≡ set bytes (at + i) byte → sets bytes' (at + i') (bytes_of rest) ≡ whole
@@ -34,7 +30,7 @@ module _ (at i i' : ℕ) (bytes whole digits rest : List ℕ) (pair : List ℕ) 
   pub left_over : length pair < 2 → length pair ≡ min 2 (length digits) → sets bytes (at + i') (bytes_of rest) ≡ whole
   left_over one len =
       let long : length digits ≡ length pair + length rest = ap (λ d. length d) cut ∙ length-append pair rest in
-      let none : rest ≡ [] = nothing rest (omega arith) in
+      let none : rest ≡ [] = nil_from_length rest (omega arith) in
       rw (none, alone [] (omega arith)) (rw (alone digits (omega arith)) at is)
 
 pub marked : (word bytes : List ℕ) → sets bytes (decimal_value (take (index_of 61 word) word)) (bytes_of (drop 1 (drop (index_of 61 word) word))) ≡ laid bytes word

@@ -22,6 +22,7 @@ pub struct Case<'a> {
 }
 
 impl<'a> Case<'a> {
+    // By name and no From: words and whole lists are bytes, too, and only a line is a case.
     pub fn of(line: &'a [u8]) -> Self
         ensures name { result.name.now ≡ take (index_of 58 line.now) line.now }
         ensures text { result.text.now ≡ drop (index_of 58 line.now) line.now }
@@ -70,6 +71,7 @@ pub struct Pieces<'a> {
 }
 
 impl<'a> Pieces<'a> {
+    // By name and no From: it takes two.
     pub fn of(text: &'a [u8], end: u8) -> Self
         ensures { pieces_left result ≡ pieces_of end text.now }
     {
@@ -205,6 +207,7 @@ fn put(space: &mut [u8], at: usize, i: usize, b: u8)
     }
 }
 
+// Two digits, whatever bytes they are.
 #[tactic(auto, unfolding(crate::specs::Words::hex_digit))]
 fn byte(high: u8, low: u8) -> u8
     ensures { result ≡ byte_of high low }
@@ -212,6 +215,7 @@ fn byte(high: u8, low: u8) -> u8
     hex_digit(high) * 16 + hex_digit(low)
 }
 
+// No `to_digit`: any byte has a value, so that no word is refused.
 #[tactic(auto, unfolding(crate::specs::Words::hex_digit))]
 fn hex_digit(b: u8) -> u8
     ensures { result ≡ hex_digit b }
@@ -219,6 +223,8 @@ fn hex_digit(b: u8) -> u8
     if b < 58 { b % 16 } else { (b - 7) % 16 }
 }
 
+// No `parse`: any byte counts as a digit, and one for which there is no room is left out, so that no word is
+// refused.
 fn decimal(word: &[u8]) -> u64
     ensures { result ≡ decimal_value word.now }
 {
