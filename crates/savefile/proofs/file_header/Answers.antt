@@ -1,6 +1,5 @@
 -- `savefile::file_header` meets its contract: each way out is a case of the table of checks, or what its magic says.
 use Rattle.std.proofs.Common.{sym, ◌∙◌, arith, ℕ, ◌≡◌, ◌≤◌, List, length, Some}
-use Rattle.answers.proofs.Passed.{passed_on}
 use Rattle.fields.specs.Number.{big, unsigned_at, field}
 use Rattle.fields.proofs.Opened.{is_number, never_missing}
 use Rattle.savefile.proofs.Header.{too_long, too_short, wrong_mark, by_magic}
@@ -11,9 +10,7 @@ read_is : (bytes : List ℕ) (n : ℕ) → 24 ≤ length bytes → Some n ≡ fi
 read_is bytes n h e = is_number (λ n. n) big 4 bytes 0 (omega arith) e
 
 pub returns-in_err-check_len : goal.returns-in_err-check_len
-returns-in_err-check_len c =
-    let why = c.in_err-check_len.ensures.too_long in
-    rw (passed_on c.from_residual.ensures, why.1) (too_long _ _ why.0)
+returns-in_err-check_len c = grind (arith, too_long)
 
 pub returns-then-data-lt-FILE_HEADER_LEN : goal.returns-then-data-lt-FILE_HEADER_LEN
 returns-then-data-lt-FILE_HEADER_LEN c = too_short _ _ c.in_ok-check_len.ensures.short_enough c.if-data-lt-FILE_HEADER_LEN.true
