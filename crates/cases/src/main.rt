@@ -36,7 +36,7 @@ fn main(rt: HostRuntime) {
         program: "cases",
         out: io::writer(&rt),
     };
-    FileCalls.run(&mut out, &mut rt.stdin());
+    case_lists::run(&FileCalls, &mut out, &mut rt.stdin());
 }
 
 struct FileCalls;

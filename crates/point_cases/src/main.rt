@@ -31,7 +31,7 @@ fn main(rt: HostRuntime) {
         program: "point_cases",
         out: io::writer(&rt),
     };
-    PointCalls.run(&mut out, &mut rt.stdin());
+    case_lists::run(&PointCalls, &mut out, &mut rt.stdin());
 }
 
 struct PointCalls;
