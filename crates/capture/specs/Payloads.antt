@@ -64,7 +64,7 @@ unfoldable pub place_of : Reading → ℕ → ℕ → List ℕ → Place
 unfolding payloads
 place_of reading port rank bytes = handed_as (first_refusal (checks reading bytes)) (payloads reading port bytes) rank
 
--- The same place where there is one: none exactly if `place_of` is `nowhere`, since a payload never starts at 0.
+-- The same place where there is one, and else none. With `nowhere` for none it is `place_of` (`handed_of_rank`).
 abbrev pub place_at : ℕ → List Place → ℕ → Option Place
 place_at number places rank = cond (eqb number 0) (slice_get places rank) None
 
