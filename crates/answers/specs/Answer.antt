@@ -38,9 +38,9 @@ refusal_number refusal = number_told (tells refusal)
 abbrev pub refusal_points : Refusal → ℕ
 refusal_points refusal = points_told (tells refusal)
 
--- 0 when read.
-abbrev pub number_of : Result Counts Refusal → ℕ
-number_of (Ok counts) = 0
+-- 0 when the call did what it is for.
+abbrev pub number_of : {A : Type 0} → Result A Refusal → ℕ
+number_of (Ok done) = 0
 number_of (Err refusal) = refusal_number refusal
 
 abbrev pub points_of : Result Counts Refusal → ℕ

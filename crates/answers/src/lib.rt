@@ -77,8 +77,9 @@ impl Refusal {
     }
 }
 
-// 0 where a reader read, else its refusal's number. No From, since an answer tells three numbers.
-pub fn number_of(answer: Result<Counts, Refusal>) -> u8
+// 0 where a call did what it is for, else its refusal's number. No From, since a reader's answer tells three
+// numbers.
+pub fn number_of<T: Copy>(answer: Result<T, Refusal>) -> u8
     ensures { result ≡ number_of answer }
 {
     match answer {
