@@ -62,6 +62,13 @@ module _ {A : Type 0} (wrap : ℕ → A) (o : ByteOrder) (k : ℕ) (s : List ℕ
   unfolding field
   field_outside h = rw (lt-leb (off + k) (length s) h)
 
+  -- A field of a part of the bytes, as a part is lent: the n bytes from start on.
+  pub field_part : (start n : ℕ) → off + k ≤ n → start + n ≤ length s → field wrap o k (take n (drop start s)) off ≡ Some (wrap (unsigned_at o k s (start + off)))
+  unfolding field
+  field_part start n h fits =
+      let long : length (take n (drop start s)) ≡ n = length-take-le n (drop start s) (simp length-drop (omega arith)) in
+      rw (long, le-leb (off + k) n h, number_part o k s start n off h)
+
 -- What code makes of the bytes that it finds, if it finds any, is the field.
 made : {A B : Type 0} (make : A → B) (b : Bool) (x : A) {found : Option A} → found ≡ (if b then Some x else None) → option_map make found ≡ (if b then Some (make x) else None)
 made make true x e = ap (option_map make) e
