@@ -9,5 +9,5 @@ mod point;
 
 pub use answers::{Counts, Refusal};
 pub use data::{MAX_DATA_LEN, ShortData, check_len};
-pub use lay::{check_room, lacks_room, lay_point};
+pub use lay::{check_room, lacks_room, lay_after, lay_point};
 pub use point::Point;
