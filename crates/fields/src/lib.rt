@@ -103,7 +103,7 @@ fn bytes_at<const N: usize>(data: &[u8], off: usize) -> Option<&[u8; N]>
     data.get(off..)?.first_chunk()
 }
 
-// The bytes as a little-endian number has them.
+// The bytes as a little-endian number has them. With `from_be_bytes` each width would have this match.
 #[tactic(auto, unfolding(crate::specs::Number::least_first))]
 fn least_first<const N: usize>(bytes: &[u8; N], order: ByteOrder) -> [u8; N]
     ensures { result ≡ least_first order bytes.now }
