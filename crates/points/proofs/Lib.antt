@@ -2,4 +2,5 @@
 pub mod After
 pub mod Laying
 pub mod Lists
+pub mod Progress
 pub mod ReadInto
