@@ -7,7 +7,7 @@ ghost use Rattle.std.specs.Prelude.{◌≡◌, ℕ, ◌+◌, if◌then◌else◌
 ghost use Rattle.std.specs.Float.{binary32};
 ghost use Rattle.std.specs.Float.Ieee.{of_bits};
 ghost use Rattle.std.specs.Option.{option_copied};
-ghost use Rattle.fields.specs.Number.{field, least_first};
+ghost use Rattle.fields.specs.Number.{field};
 ghost use Rattle.fields.specs.Signed.{signed};
 
 // Which byte of a number comes first: the least significant one, or the most significant one, as in
@@ -29,15 +29,19 @@ pub trait Field: Copy {
         ensures { result ≡ field of_unsigned order width «data».now off };
 }
 
-// A body for each width: Rattle takes no const argument that is computed, as the width of a type would be.
+// A body for each width: Rattle takes no const argument that is computed, as the width of a type would be. And a
+// match in each: put in order first, the bytes are no longer one load for LLVM.
 impl Field for u16 {
     ghost width = { 2 };
 
     ghost of_unsigned = { λ n. n };
 
     fn read(data: &[u8], off: usize, order: ByteOrder) -> Option<u16> {
-        let bytes = bytes_at::<2>(data, off)?;
-        Some(u16::from_le_bytes(least_first(bytes, order)))
+        let bytes = *bytes_at::<2>(data, off)?;
+        Some(match order {
+            ByteOrder::Little => u16::from_le_bytes(bytes),
+            ByteOrder::Big => u16::from_be_bytes(bytes),
+        })
     }
 }
 
@@ -47,8 +51,11 @@ impl Field for u32 {
     ghost of_unsigned = { λ n. n };
 
     fn read(data: &[u8], off: usize, order: ByteOrder) -> Option<u32> {
-        let bytes = bytes_at::<4>(data, off)?;
-        Some(u32::from_le_bytes(least_first(bytes, order)))
+        let bytes = *bytes_at::<4>(data, off)?;
+        Some(match order {
+            ByteOrder::Little => u32::from_le_bytes(bytes),
+            ByteOrder::Big => u32::from_be_bytes(bytes),
+        })
     }
 }
 
@@ -58,8 +65,11 @@ impl Field for u64 {
     ghost of_unsigned = { λ n. n };
 
     fn read(data: &[u8], off: usize, order: ByteOrder) -> Option<u64> {
-        let bytes = bytes_at::<8>(data, off)?;
-        Some(u64::from_le_bytes(least_first(bytes, order)))
+        let bytes = *bytes_at::<8>(data, off)?;
+        Some(match order {
+            ByteOrder::Little => u64::from_le_bytes(bytes),
+            ByteOrder::Big => u64::from_be_bytes(bytes),
+        })
     }
 }
 
@@ -101,19 +111,6 @@ fn bytes_at<const N: usize>(data: &[u8], off: usize) -> Option<&[u8; N]>
     ensures { option_copied result ≡ if nat_le (off + N) (length «data».now) then Some (take N (drop off «data».now)) else None }
 {
     data.get(off..)?.first_chunk()
-}
-
-// The bytes as a little-endian number has them. With `from_be_bytes` each width would have this match.
-#[tactic(auto, unfolding(crate::specs::Number::least_first))]
-fn least_first<const N: usize>(bytes: &[u8; N], order: ByteOrder) -> [u8; N]
-    ensures { result ≡ least_first order bytes.now }
-{
-    let mut bytes = *bytes;
-    match order {
-        ByteOrder::Little => {}
-        ByteOrder::Big => bytes.reverse(),
-    }
-    bytes
 }
 
 // The f32 with this pattern. `f32::from_bits` is undefined at a NaN, so a NaN is made by a
