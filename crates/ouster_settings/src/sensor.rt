@@ -21,9 +21,7 @@ impl<'a> Sensor<'a> {
         ensures accepted { IfOk result (λ s. (s.settings ≡ settings) × (s.beam_altitudes.now ≡ beam_altitudes.now)) }
         ensures refused { IfErr result (λ e. (bad_settings settings (length beam_altitudes.now) ≡ true) × (e ≡ BadSettings)) }
     {
-        if settings.are_bad_with(beam_altitudes.len()) {
-            return Err(Refusal::BadSettings);
-        }
+        settings.check(beam_altitudes.len())?;
         Ok(Sensor {
             settings,
             beam_altitudes,

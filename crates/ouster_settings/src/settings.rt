@@ -1,8 +1,10 @@
 // What a recording was made with, and the made-ready settings of two sensors.
 
-ghost use Rattle.std.specs.Prelude.{◌≡◌};
+ghost use Rattle.std.specs.Prelude.{◌≡◌, true, false, OnOk, IfErr};
+ghost use Rattle.answers.specs.declared.Refusal.TheVariants.{BadSettings};
 ghost use Rattle.ouster_settings.specs.Settings.{is_beam_count, bad_settings, os1_64, os_128, os1_64_elevations, os_128_elevations};
 
+use points::Refusal;
 use std::array;
 
 #[derive(Clone, Copy, Debug, PartialEq, Eq)]
@@ -20,22 +22,18 @@ impl OusterSettings {
 
     pub const COLUMNS_PER_PACKET: usize = 16;
 
-    // Refusal 2, where so many elevations are lent.
-    pub fn are_bad_with(self, altitudes: usize) -> bool
-        ensures { result ≡ bad_settings self altitudes }
+    // Check 2, where so many elevations are lent.
+    #[tactic(auto, unfolding(crate::specs::Settings::bad_settings))]
+    pub fn check(self, altitudes: usize) -> Result<(), Refusal>
+        ensures good { OnOk result (bad_settings self altitudes ≡ false) }
+        ensures bad { IfErr result (λ e. (bad_settings self altitudes ≡ true) × (e ≡ BadSettings)) }
     {
         let columns = self.columns_per_packet;
         let beams = self.pixels_per_column;
-        if !is_beam_count(beams) {
-            return true;
+        if !is_beam_count(beams) || columns < 1 || 64 < columns || altitudes < beams {
+            return Err(Refusal::BadSettings);
         }
-        if columns < 1 {
-            return true;
-        }
-        if 64 < columns {
-            return true;
-        }
-        altitudes < beams
+        Ok(())
     }
 
     // Made-ready settings, a function for each sensor by its name, as lidar.rs has them.
