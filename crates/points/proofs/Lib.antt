@@ -2,5 +2,6 @@
 pub mod After
 pub mod Laying
 pub mod Lists
+pub mod Parts
 pub mod Progress
 pub mod ReadInto
