@@ -7,4 +7,4 @@ mod walk;
 pub use fields::ByteOrder;
 pub use record_rule::{Reading, TimeUnit, Timestamp};
 pub use savefile::RecordFormat;
-pub use walk::{Cursor, Place, open, open_as};
+pub use walk::{Cursor, Place, Places, open, open_as, places_from};

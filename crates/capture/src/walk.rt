@@ -1,20 +1,35 @@
 // The walk over a capture's records, payload by payload.
 
-ghost use Rattle.std.specs.Prelude.{◌≡◌, ◌+◌, ◌≤◌};
+ghost use Rattle.std.specs.Prelude.{◌≡◌, ◌+◌, ◌≤◌, min, length};
+ghost use Rattle.std.specs.Iterator.{YieldsFirst, item_count};
 ghost use Rattle.record_rule.specs.Reading.{usual};
-ghost use Rattle.capture.specs.Payloads.{place_in, moved_to, opening, of_opened, step_of};
+ghost use Rattle.capture.specs.Payloads.{place_in, bytes_at, PartAt, moved_to, opening, of_opened, places_from, step_of};
+ghost use Rattle.capture.specs.Walked.{places_left};
 
 use points::Refusal;
 use record_rule::{Part, Reading, Record, Timestamp};
 use savefile::RecordFormat;
 
 // Where a payload stands: its record's header, its first byte, and its length. And when its record was captured.
-#[derive(Clone, Copy, Debug, PartialEq, Eq)]
+// The default, all zeros, is no payload's, since none starts at 0.
+#[derive(Clone, Copy, Debug, Default, PartialEq, Eq)]
 pub struct Place {
     pub header: usize,
     pub start: usize,
     pub len: usize,
     pub time: Timestamp,
+}
+
+impl Place {
+    // The bytes there, as far as the data has them.
+    pub fn bytes(self, data: &[u8]) -> &[u8]
+        ensures contents { result.now ≡ bytes_at «data».now self }
+        ensures place { PartAt (min self.start (length «data».now)) «data».entry.ref_ptr result.ref_ptr }
+    {
+        let start = self.start.min(data.len());
+        let end = start + self.len.min(data.len() - start);
+        &data[start..end]
+    }
 }
 
 // A place in the walk. It is a value: a copy of it goes the same way again.
@@ -62,8 +77,8 @@ impl Cursor {
         let reading = self.reading;
         let format = self.format;
         let mut at = self.at;
-        // No index: each record's stated length says where the next one stands. And no iterator: a caller keeps
-        // the cursor between calls, as C does.
+        // No index: each record's stated length says where the next one stands. And no iterator: `Places` goes by
+        // these steps, and C keeps the cursor between calls.
         loop {
             let record = savefile::record_at(data, at, format)?;
             let body = record.body;
@@ -73,6 +88,35 @@ impl Cursor {
             }
             at = end;
         }
+    }
+}
+
+// The places of a capture's payloads, in order.
+#[derive(Drop)]
+pub struct Places<'a> {
+    pub(crate) data: &'a [u8],
+    pub(crate) cursor: Cursor,
+}
+
+// The places from a cursor on.
+pub fn places_from(data: &[u8], cursor: Cursor) -> Places<'_>
+    ensures { places_left result ≡ places_from cursor «data».entry.now }
+{
+    Places { data, cursor }
+}
+
+impl<'a> Iterator for Places<'a> {
+    type Item = Place;
+
+    ghost next_gives = { YieldsFirst places_left };
+
+    ghost remaining = { item_count places_left };
+
+    #[tactic(auto, using(crate::proofs::Steps::step_payload, crate::proofs::Steps::step_end))]
+    fn next(&mut self) -> Option<Place> {
+        let (place, next) = self.cursor.step(self.data)?;
+        self.cursor = next;
+        Some(place)
     }
 }
 
