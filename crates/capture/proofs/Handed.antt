@@ -1,7 +1,8 @@
 -- Laws that a promise rests on: each payload lies inside the data and is not empty (`all_within`), so the part that is handed back is empty exactly if the
 -- capture is refused or has no payload of that rank (`empty_if`, `empty_only_if`). They hold for any records that lie inside the data, wherever these come from,
 -- for any number that the checks give, any reading and any port. Then the same of a savefile's records, and of a step.
-use Rattle.std.proofs.Common.{refl, ap, subst, inl, inr, arith, zero-le, lt_of_not-le, length-take, length-drop, ne_eqb, ℕ, zero, suc, ◌+◌, ◌-◌, ◌≤◌, ◌<◌, ◌≡◌, ◌⊎◌, Bool, true, false, cond, List, [], ◌∷◌, ◌++◌, eqb, length, take, drop, get_or, slice_get, unwrap_or, Some, None, Ok, Err}
+use Rattle.std.proofs.Common.{refl, ap, subst, inl, inr, arith, zero-le, lt_of_not-le, length-take, length-drop, ne_eqb, ℕ, zero, suc, ◌+◌, ◌-◌, ◌≤◌, ◌<◌, ◌≡◌, ◌⊎◌, Bool, true, false, cond, List, [], ◌∷◌, ◌++◌, eqb, length, take, drop, get_or, slice_get, unwrap_or, Option, Some, None, Ok, Err}
+use Rattle.std.specs.Option.{UnwrapsOrElse}
 use Rattle.std.proofs.Math.Decide.{dec_le, ℕ_discrete}
 use Rattle.std.proofs.lemmas.Option.{unwrap_or-slice_get}
 use Rattle.std.proofs.lemmas.List.{get_or_past}
@@ -10,6 +11,7 @@ use Rattle.points.specs.ReadInto.{first_refusal}
 use Rattle.record_rule.specs.declared.Record.{Record}
 use Rattle.record_rule.specs.declared.reading.Reading.{Reading}
 use Rattle.record_rule.specs.declared.rule.Part.{Part}
+use Rattle.record_rule.specs.declared.time.TimeUnit.TheVariants.{Microseconds}
 use Rattle.record_rule.specs.Captured.{record_bytes}
 use Rattle.record_rule.specs.Record.{Verdict, verdict}
 use Rattle.record_rule.proofs.Inside.{Inside, AllInside, Among, inside_of, inside_length}
@@ -144,6 +146,14 @@ module _ (reading : Reading) (port rank : ℕ) (bytes : List ℕ) where
 pub handed_of_rank : (reading : Reading) (port rank : ℕ) (bytes : List ℕ) → unwrap_or (place_of_rank reading port rank bytes) nowhere ≡ place_of reading port rank bytes
 unfolding place_of place_of_rank
 handed_of_rank reading port rank bytes = handed (first_refusal (checks reading bytes)) (payloads reading port bytes) rank
+
+-- Code's answer, where the default is told for none.
+abbrev IsDefault : Place → Type 0
+IsDefault p = (p.header ≡ 0) × ((p.start ≡ 0) × ((p.len ≡ 0) × ((p.time.seconds ≡ 0) × ((p.time.fraction ≡ 0) × (p.time.unit ≡ Microseconds)))))
+
+pub by_default : (found : Option Place) (place : Place) → UnwrapsOrElse found IsDefault place → place ≡ unwrap_or found nowhere
+by_default None place e = rw (e.0, e.1.0, e.1.1.0, e.1.1.1.0, e.1.1.1.1.0, e.1.1.1.1.1)
+by_default (Some p) place e = e
 
 -- ---- of a step
 pub of_step : (P : Place → Type 0) (c : Cursor) (bytes : List ℕ) (p : Place) (next : Cursor) → AllOf P (places_of (yields_after c bytes)) → step_of c bytes ≡ Some (p, next) → P p

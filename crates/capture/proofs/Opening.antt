@@ -1,12 +1,14 @@
 -- Opening a capture by the file header's answer, and what an answer says of the checks.
-use Rattle.std.proofs.Common.{refl, sym, ap, ◌∙◌, ℕ, ◌≡◌, Bool, true, false, cond, List, [], ◌∷◌, map, eqb}
+use Rattle.std.proofs.Common.{refl, sym, ap, ◌∙◌, ℕ, ◌≡◌, Bool, true, false, cond, List, [], ◌∷◌, map, eqb, Some, None, Result, Ok, Err}
+use Rattle.std.specs.Result.{result_ok}
+use Rattle.answers.specs.declared.Refusal.{Refusal}
 use Rattle.points.specs.ReadInto.{first_refusal}
 use Rattle.record_rule.specs.declared.reading.Reading.{Reading}
 use Rattle.savefile.specs.declared.RecordFormat.{RecordFormat}
 use Rattle.savefile.specs.Savefile.{format_of, checks}
 use Rattle.savefile.specs.Headers.{file_header}
 use Rattle.capture.specs.declared.walk.Cursor.{Cursor}
-use Rattle.capture.specs.Payloads.{opening, start_cursor}
+use Rattle.capture.specs.Payloads.{opening, of_opened, start_cursor}
 
 module _ (reading : Reading) (port : ℕ) (bytes : List ℕ) where
   -- The file header's answer, with a cursor where it accepts.
@@ -45,3 +47,12 @@ module _ (reading : Reading) (port : ℕ) (bytes : List ℕ) where
   own cursor e =
       let same = kept cursor e in
       e ∙ sym (ap (λ (r : Reading). opening r cursor.port bytes) same.0 ∙ ap (λ (p : ℕ). opening reading p bytes) same.1)
+
+  -- The same of what `ok` leaves of the answer.
+  pub is_opened : (opened : Result Cursor Refusal) (cursor : Cursor) → of_opened opened ≡ opening reading port bytes → result_ok opened ≡ Some cursor → (0, cursor ∷ []) ≡ opening reading port bytes
+  is_opened (Ok own) cursor e is = let same : own ≡ cursor = cc in rw same at e
+  is_opened (Err refusal) cursor e is = absurd (cc)
+
+  pub is_refused : (opened : Result Cursor Refusal) → of_opened opened ≡ opening reading port bytes → result_ok opened ≡ None → first_refusal (checks reading bytes) ≡ 0 → ⊥
+  is_refused (Ok cursor) e is = absurd (cc)
+  is_refused (Err refusal) e is = refuses _ e
