@@ -1,7 +1,7 @@
 -- Laws that a promise rests on: each payload lies inside the data and is not empty (`all_within`), so the part that is handed back is empty exactly if the
 -- capture is refused or has no payload of that rank (`empty_if`, `empty_only_if`). They hold for any records that lie inside the data, wherever these come from,
 -- for any number that the checks give, any reading and any port. Then the same of a savefile's records, and of a step.
-use Rattle.std.proofs.Common.{refl, ap, subst, inl, inr, arith, zero-le, lt_of_not-le, length-take, length-drop, ne_eqb, ℕ, zero, suc, ◌+◌, ◌-◌, ◌≤◌, ◌<◌, ◌≡◌, ◌⊎◌, Bool, true, false, cond, List, [], ◌∷◌, ◌++◌, eqb, length, take, drop, get_or, slice_get, unwrap_or, Option, Some, None, Ok, Err}
+use Rattle.std.proofs.Common.{refl, ap, subst, inl, inr, arith, zero-le, lt_of_not-le, length-take, length-drop, ne_eqb, ℕ, zero, suc, ◌+◌, ◌≤◌, ◌<◌, ◌≡◌, ◌⊎◌, Bool, true, false, cond, List, [], ◌∷◌, ◌++◌, eqb, length, get_or, slice_get, unwrap_or, Option, Some, None, Ok, Err}
 use Rattle.std.specs.Option.{UnwrapsOrElse}
 use Rattle.std.proofs.Math.Decide.{dec_le, ℕ_discrete}
 use Rattle.std.proofs.lemmas.Option.{unwrap_or-slice_get}
@@ -169,7 +169,3 @@ of_step P c bytes p next all e = go (yields_after c bytes) all e
 pub step_within : (c : Cursor) (bytes : List ℕ) (p : Place) (next : Cursor) → step_of c bytes ≡ Some (p, next) → Within bytes p
 unfolding yields_from
 step_within c bytes p next = of_step (Within bytes) c bytes p next (all_within c.reading c.port bytes (all_records_from c.format bytes c.at) (records_inside c.format bytes (length bytes) c.at))
-
--- Code lends the bytes at a place.
-pub part_lent : (bytes : List ℕ) (p : Place) → take (p.start + p.len - p.start) (drop p.start bytes) ≡ bytes_at bytes p
-part_lent bytes p = let e : p.start + p.len - p.start ≡ p.len = omega arith in rw e
