@@ -12,7 +12,7 @@ ghost use Rattle.capture.specs.Payloads.{nowhere};
 ghost use Rattle.c_capture.specs.Capture.{payload_told, tell_payload, tell_place, moved_on, step_from, tell_step, tell_next};
 
 use c_form::reading_of;
-use capture::{Cursor, Place, Reading, Timestamp};
+use capture::{Cursor, Place, Reading};
 
 #[unsafe(no_mangle)]
 pub extern "C" fn lidar_payload_place_as(
@@ -91,19 +91,14 @@ pub extern "C" fn lidar_next_payload(
 fn number_of(data: &[u8], reading: Reading) -> u8
     ensures { result ≡ first_refusal (checks reading «data».now) }
 {
-    match capture::open_as(data, reading, 0) {
-        Ok(_) => 0,
-        Err(refusal) => refusal.number(),
-    }
+    answers::number_of(capture::open_as(data, reading, 0))
 }
 
 // The step from a place of the walk on. A capture that is refused has none.
 fn step_from(data: &[u8], reading: Reading, port: u16, at: usize) -> Option<(Place, Cursor)>
     ensures { result ≡ step_from reading port «data».now at }
 {
-    let Ok(cursor) = capture::open_as(data, reading, port) else {
-        return None;
-    };
+    let cursor = capture::open_as(data, reading, port).ok()?;
     moved_on(cursor, at).step(data)
 }
 
@@ -153,16 +148,8 @@ fn tell_payload(
 )
     ensures { payload_told start.new len.new (seconds.new, fraction.new, unit.new) ≡ tell_payload (unwrap_or place nowhere) }
 {
-    match place {
-        Some(place) => {
-            *start = place.start;
-            *len = place.len;
-            place.time.tell(seconds, fraction, unit);
-        }
-        None => {
-            *start = 0;
-            *len = 0;
-            Timestamp::default().tell(seconds, fraction, unit);
-        }
-    }
+    let place = place.unwrap_or_default();
+    *start = place.start;
+    *len = place.len;
+    place.time.tell(seconds, fraction, unit);
 }

@@ -1,16 +1,15 @@
 -- `c_capture::number_of` meets its contract: opening gives the number of the first check that applies.
-use Rattle.std.proofs.Common.{ℕ, sym, ap, ◌∙◌, List}
+use Rattle.std.proofs.Common.{ℕ, ap, ◌∙◌, ◌≡◌, List, refl, Result, Ok, Err}
+use Rattle.answers.specs.declared.Refusal.{Refusal}
+use Rattle.answers.specs.Answer.{number_of}
 use Rattle.capture.specs.declared.walk.Cursor.{Cursor}
 use Rattle.capture.specs.Payloads.{opening, of_opened}
 use Rattle.c_capture.proofs.number_of.Goals as goal
 
-abbrev number : ℕ × List Cursor → ℕ
-number opened = opened.0
+told : (opened : Result Cursor Refusal) → number_of opened ≡ (of_opened opened).0
+told (Ok cursor) = refl
+told (Err refusal) = refl
 
-pub returns-in-Ok : goal.returns-in-Ok
+pub returns : goal.returns
 unfolding opening
-returns-in-Ok c = ap number (ap of_opened (sym c.in-Ok.is) ∙ c.open_as.ensures)
-
-pub returns-in-Err : goal.returns-in-Err
-unfolding opening
-returns-in-Err c = c.number.ensures ∙ ap number (ap of_opened (sym c.in-Err.is) ∙ c.open_as.ensures)
+returns c = c.number_of.ensures ∙ told _ ∙ ap (λ (opened : ℕ × List Cursor). opened.0) c.open_as.ensures
