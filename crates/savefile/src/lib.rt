@@ -2,7 +2,7 @@
 
 #![tactic(auto)]
 
-ghost use Rattle.std.specs.Prelude.{◌≡◌, ◌+◌, ◌≤◌, length};
+ghost use Rattle.std.specs.Prelude.{◌≡◌, Some};
 ghost use Rattle.savefile.specs.Savefile.{other, order_by, format_by, time_at};
 ghost use Rattle.savefile.specs.Headers.{file_header, of_file_header, recorded_at};
 
@@ -74,14 +74,9 @@ fn other(order: ByteOrder) -> ByteOrder
 pub fn record_at(data: &[u8], at: usize, format: RecordFormat) -> Option<Record>
     ensures { result ≡ recorded_at format «data».now at }
 {
-    if data.len() < RECORD_HEADER_LEN {
-        return None;
-    }
-    if data.len() - RECORD_HEADER_LEN < at {
-        return None;
-    }
+    let header: &[u8; RECORD_HEADER_LEN] = data.get(at..)?.first_chunk()?;
     let body = at + RECORD_HEADER_LEN;
-    let len = u32::read(data, at + 8, format.order)? as usize;
+    let len = u32::read(header, 8, format.order)? as usize;
     if data.len() - body < len {
         return None;
     }
@@ -89,19 +84,17 @@ pub fn record_at(data: &[u8], at: usize, format: RecordFormat) -> Option<Record>
         header: at,
         body,
         len,
-        time: time_at(data, at, format)?,
+        time: time_at(header, format)?,
     })
 }
 
-// The time that the record header at a place states.
-fn time_at(data: &[u8], at: usize, format: RecordFormat) -> Option<Timestamp>
-    requires { at + 16 ≤ length «data».now }
-    ensures { result ≡ Some (time_at format «data».now at) }
+// The time that a record's header states.
+fn time_at(header: &[u8; RECORD_HEADER_LEN], format: RecordFormat) -> Option<Timestamp>
+    ensures { result ≡ Some (time_at format header.now 0) }
 {
-    let fraction_at = at + 4;
     let unit = format.unit;
-    let seconds = u32::read(data, at, format.order)?;
-    let fraction = u32::read(data, fraction_at, format.order)?;
+    let seconds = u32::read(header, 0, format.order)?;
+    let fraction = u32::read(header, 4, format.order)?;
     Some(Timestamp {
         seconds,
         fraction,
