@@ -98,9 +98,11 @@ pub struct Places<'a> {
     pub(crate) cursor: Cursor,
 }
 
-// The places from a cursor on.
+// The places from a cursor on. Each payload has bytes of its own, so that there are no more than bytes.
+#[tactic(auto, using(crate::proofs::Joined::few_places))]
 pub fn places_from(data: &[u8], cursor: Cursor) -> Places<'_>
-    ensures { places_left result ≡ places_from cursor «data».entry.now }
+    ensures places { places_left result ≡ places_from cursor «data».entry.now }
+    ensures few { length (places_left result) ≤ length «data».entry.now }
 {
     Places { data, cursor }
 }

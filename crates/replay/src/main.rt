@@ -58,6 +58,7 @@ fn replay_file<R: Runtime, W: Write, F: Read>(
     name: &str,
     file: &mut F,
 ) -> bool {
+    // By no `Console::read_whole`: a file is told by its name, and a line that can't be written ends the program.
     let mut space = [0u8; 65536];
     match input::read_whole(file, &mut space) {
         Ok(data) => show(out, name, data),
@@ -94,21 +95,15 @@ fn show<R: Runtime, W: Write>(out: &mut Console<'_, R, W>, name: &str, data: &[u
     }
 }
 
-// How many payloads a walk by steps meets. Each has a byte of its own, so that there are no more than bytes.
+// How many payloads the walk meets.
 fn count(data: &[u8], reading: Reading, port: u16) -> usize {
-    let Ok(mut cursor) = capture::open_as(data, reading, port) else {
-        return 0;
-    };
-    for met in 0..data.len() {
-        let Some((_, next)) = cursor.step(data) else {
-            return met;
-        };
-        cursor = next;
+    match capture::open_as(data, reading, port) {
+        Ok(cursor) => capture::places_from(data, cursor).count(),
+        Err(_) => 0,
     }
-    data.len()
 }
 
-// A line for each payload: its rank, then its start and length as the step tells them, then its time and its bytes as the call by rank hands them back. Last,
+// A line for each payload: its rank, then its start and length as the walk tells them, then its time and its bytes as the call by rank hands them back. Last,
 // the rank after them all.
 fn show_payloads<R: Runtime, W: Write>(
     out: &mut Console<'_, R, W>,
@@ -116,19 +111,17 @@ fn show_payloads<R: Runtime, W: Write>(
     data: &[u8],
     first: Cursor,
 ) {
-    let mut cursor = first;
-    for rank in 0..=data.len() {
+    for (rank, place) in capture::places_from(data, first).enumerate() {
         out.print(name);
         out.print_next(rank);
-        let Some((place, next)) = cursor.step(data) else {
-            show_rank(out, data, rank);
-            return;
-        };
         out.print_next(place.start);
         out.print_next(place.len);
         show_rank(out, data, rank);
-        cursor = next;
     }
+    let rank = capture::places_from(data, first).count();
+    out.print(name);
+    out.print_next(rank);
+    show_rank(out, data, rank);
 }
 
 fn show_rank<R: Runtime, W: Write>(out: &mut Console<'_, R, W>, data: &[u8], rank: usize) {
@@ -149,7 +142,8 @@ fn show_rank<R: Runtime, W: Write>(out: &mut Console<'_, R, W>, data: &[u8], ran
     out.write(b"\n");
 }
 
-// Says on standard error what failed, and why. Where that fails, too, nothing is left to be said.
+// Says on standard error what failed, and why. Where that fails, too, nothing is left to be said. `Console` has no
+// public function for it: no contract can name what goes to standard error, so that no wrong one could be refused.
 fn fail<R: Runtime>(rt: &R, what: &str, error: io::Error) {
     let _ = rt.eprintln(Failure { what, error });
 }

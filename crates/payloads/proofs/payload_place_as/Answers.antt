@@ -22,5 +22,5 @@ unfolding payloads place_of_rank places_from
 returns c =
     let a = c.args in
     let yes = walks a.reading a.port a.«data».now _ (is_opened a.reading a.port a.«data».now _ _ c.open_as.ensures (sym c.ok.ensures.value ∙ c.in_ok-cursor.was)) in
-    let given = nth_from_yields_List _ c.nth.new.self _ c.nth.ensures.ran (YieldsList-from_first (λ p. p) places_left _ c.places_from.ensures) in
+    let given = nth_from_yields_List _ c.nth.new.self _ c.nth.ensures.ran (YieldsList-from_first (λ p. p) places_left _ c.places_from.ensures.places) in
     (same c.nth.result ∙ given) ∙ rw (yes.1, yes.0)
