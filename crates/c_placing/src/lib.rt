@@ -25,7 +25,7 @@ pub fn lidar_place_millimetres(
     ensures accurate { Accurate [] (Some (millimetres x (pos 0) (pos 0))) count datum pulse_length (received (result, metres.new)) }
 {
     let in_millimetres = StoredReading::Millimetres(Millimetres(x), Millimetres(0), Millimetres(0));
-    tell_place(in_millimetres, count, datum, pulse_length, metres)
+    tell_place(in_millimetres, belt(count, datum, pulse_length), metres)
 }
 
 pub fn lidar_place_ten_millimetres(
@@ -43,7 +43,7 @@ pub fn lidar_place_ten_millimetres(
         TenMillimetres(0),
         TenMillimetres(0),
     );
-    tell_place(in_ten_millimetres, count, datum, pulse_length, metres)
+    tell_place(in_ten_millimetres, belt(count, datum, pulse_length), metres)
 }
 
 pub fn lidar_pulses(count: u32, datum: u32) -> i32
@@ -52,32 +52,31 @@ pub fn lidar_pulses(count: u32, datum: u32) -> i32
     pulses(BeltCount(count), BeltDatum(datum)).0
 }
 
-fn tell_place(
-    reading: StoredReading,
-    count: u32,
-    datum: u32,
-    pulse_length: u32,
-    metres: &mut f32,
-) -> u8
-    ensures placed { (result, metres.new) ≡ tell_placed (place (by_reading (of_stored_reading reading)) count datum pulse_length) metres.old }
-    ensures accurate { Accurate [] (Some (of_stored_reading reading)) count datum pulse_length (received (result, metres.new)) }
+// The belt that three numbers say.
+pub fn belt(count: u32, datum: u32, pulse_length: u32) -> Belt
+    ensures count { result.count.0 ≡ count }
+    ensures datum { result.datum.0 ≡ datum }
+    ensures pulse_length { result.pulse_length.0 ≡ pulse_length }
 {
-    let belt = Belt {
+    Belt {
         count: BeltCount(count),
         datum: BeltDatum(datum),
         pulse_length: PulseLength(pulse_length),
-    };
+    }
+}
+
+fn tell_place(reading: StoredReading, belt: Belt, metres: &mut f32) -> u8
+    ensures placed { (result, metres.new) ≡ tell_placed (place (by_reading (of_stored_reading reading)) belt.count.0 belt.datum.0 belt.pulse_length.0) metres.old }
+    ensures accurate { Accurate [] (Some (of_stored_reading reading)) belt.count.0 belt.datum.0 belt.pulse_length.0 (received (result, metres.new)) }
+{
     tell(place(reading, belt), metres)
 }
 
 pub fn tell(placed: Result<f32, Refusal>, metres: &mut f32) -> u8
     ensures { (result, metres.new) ≡ tell_placed (of_placed placed) metres.old }
 {
-    match placed {
-        Ok(distance) => {
-            *metres = distance;
-            0
-        }
-        Err(refusal) => refusal.number(),
+    if let Ok(distance) = placed {
+        *metres = distance;
     }
+    answers::number_of(placed)
 }
