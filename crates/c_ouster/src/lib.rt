@@ -1,4 +1,5 @@
-// Ouster captures, and the settings of two Ouster sensors, as include/lidar.h declares the calls.
+// Ouster captures, and the settings of two Ouster sensors, as include/lidar.h declares the calls. Both readers have a
+// literal of the settings, which names each field; a function of three numbers would not.
 
 #![tactic(auto)]
 
@@ -78,9 +79,7 @@ pub extern "C" fn lidar_os1_64(
     ensures altitudes { beam_altitudes.new ≡ os1_64_elevations }
 {
     let settings = OusterSettings::os1_64();
-    *columns_per_packet = settings.columns_per_packet;
-    *pixels_per_column = settings.pixels_per_column;
-    *lidar_port = settings.lidar_port;
+    tell_settings(settings, columns_per_packet, pixels_per_column, lidar_port);
     *beam_altitudes = OusterSettings::os1_64_altitudes();
 }
 
@@ -95,8 +94,20 @@ pub extern "C" fn lidar_os_128(
     ensures altitudes { beam_altitudes.new ≡ os_128_elevations }
 {
     let settings = OusterSettings::os_128();
+    tell_settings(settings, columns_per_packet, pixels_per_column, lidar_port);
+    *beam_altitudes = OusterSettings::os_128_altitudes();
+}
+
+// The settings go out by reference, number by number.
+fn tell_settings(
+    settings: OusterSettings,
+    columns_per_packet: &mut usize,
+    pixels_per_column: &mut usize,
+    lidar_port: &mut u16,
+)
+    ensures { settings_of columns_per_packet.new pixels_per_column.new lidar_port.new ≡ settings }
+{
     *columns_per_packet = settings.columns_per_packet;
     *pixels_per_column = settings.pixels_per_column;
     *lidar_port = settings.lidar_port;
-    *beam_altitudes = OusterSettings::os_128_altitudes();
 }
