@@ -198,7 +198,7 @@ fn lay_hex(hex: &[u8], at: usize, space: &mut [u8])
     }
 }
 
-// Past the end nothing is put.
+// Past the end nothing is put. By index: once a borrow by `get_mut` or `iter_mut` is over, a proof knows no element.
 fn put(space: &mut [u8], at: usize, i: usize, b: u8)
     ensures { space.new ≡ set space.old (at + i) b }
 {

@@ -77,6 +77,7 @@ fn belt(case: &Case<'_>, rank: usize) -> Belt
     }
 }
 
+// The lower 32 bits. The remainder comes first, since Rattle proves of an `as` that it loses none.
 fn low(n: u64) -> u32 {
     (n % 4294967296) as u32
 }
