@@ -1,5 +1,4 @@
 -- What the proofs of both forms share, the records and the table of checks, and that the forms agree.
 pub mod Checks
 pub mod Forms
-pub mod Laying
 pub mod Records

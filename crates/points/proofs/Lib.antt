@@ -1,6 +1,5 @@
 -- The laws that stand for the definitions of `specs/` in every proof, of this crate and of its callers.
 pub mod After
-pub mod Laying
 pub mod Lists
 pub mod Parts
 pub mod Progress
