@@ -2,6 +2,7 @@
 -- capture is refused or has no payload of that rank (`empty_if`, `empty_only_if`). They hold for any records that lie inside the data, wherever these come from,
 -- for any number that the checks give, any reading and any port. Then the same of a savefile's records, and of a step.
 use Rattle.std.proofs.Common.{refl, ap, subst, inl, inr, arith, zero-le, lt_of_not-le, length-take, length-drop, ne_eqb, ℕ, zero, suc, ◌+◌, ◌≤◌, ◌<◌, ◌≡◌, ◌⊎◌, Bool, true, false, cond, List, [], ◌∷◌, ◌++◌, eqb, length, get_or, slice_get, unwrap_or, Option, Some, None, Ok, Err}
+use Rattle.std.specs.List.{AllByRecursion}
 use Rattle.std.specs.Option.{UnwrapsOrElse}
 use Rattle.std.proofs.Math.Decide.{dec_le, ℕ_discrete}
 use Rattle.std.proofs.lemmas.Option.{unwrap_or-slice_get}
@@ -14,7 +15,7 @@ use Rattle.record_rule.specs.declared.rule.Part.{Part}
 use Rattle.record_rule.specs.declared.time.TimeUnit.TheVariants.{Microseconds}
 use Rattle.record_rule.specs.Captured.{record_bytes}
 use Rattle.record_rule.specs.Record.{Verdict, verdict}
-use Rattle.record_rule.proofs.Inside.{Inside, AllInside, Among, inside_of, inside_length}
+use Rattle.record_rule.proofs.Inside.{Inside, Among, inside_of, inside_length}
 use Rattle.record_rule.proofs.Tests.{payload_inside}
 use Rattle.savefile.specs.Savefile.{all_records_from, format_of, checks}
 use Rattle.savefile.proofs.Records.{records_inside}
@@ -26,19 +27,14 @@ pub record Within (bytes : List ℕ) (p : Place) : Type 0 where
   pub inside : p.start + p.len ≤ length bytes
   pub some : 0 < p.len
 
--- Each of some places has a property.
-abbrev pub AllOf : (Place → Type 0) → List Place → Type 0
-AllOf P [] = Unit
-AllOf P (p ∷ places) = P p × AllOf P places
-
-at_rank : (P : Place → Type 0) (places : List Place) (rank : ℕ) → AllOf P places → rank < length places → P (get_or places rank nowhere)
+at_rank : (P : Place → Type 0) (places : List Place) (rank : ℕ) → AllByRecursion P places → rank < length places → P (get_or places rank nowhere)
 at_rank P [] rank a h = absurd (omega arith)
 at_rank P (p ∷ places) zero a h = a.0
 at_rank P (p ∷ places) (suc rank) a h = at_rank P places rank a.1 (omega arith)
 
 -- ---- of any records inside the data
-with_one : (P : Place → Type 0) (r : Record) (v : Verdict) (later : List Yield) → ((part : Part) → v ≡ Ok part → P (place_in r part)) → AllOf P (places_of later)
-    → AllOf P (places_of (yield_at r v ++ later))
+with_one : (P : Place → Type 0) (r : Record) (v : Verdict) (later : List Yield) → ((part : Part) → v ≡ Ok part → P (place_in r part)) → AllByRecursion P (places_of later)
+    → AllByRecursion P (places_of (yield_at r v ++ later))
 with_one P r (Err why) later k a = a
 with_one P r (Ok part) later k a = (k part refl, a)
 
@@ -46,7 +42,7 @@ module _ (reading : Reading) (port : ℕ) (bytes : List ℕ) where
   -- A property that each payload has by the record that yields it.
   pub all_of : (P : Place → Type 0) (records : List Record)
       → ((r : Record) → Among r records → (part : Part) → verdict reading port (record_bytes bytes r) ≡ Ok part → P (place_in r part))
-      → AllOf P (places_of (yields_in reading port bytes records))
+      → AllByRecursion P (places_of (yields_in reading port bytes records))
   unfolding flat_map yield_of
   all_of P [] k = tt
   all_of P (r ∷ records) k =
@@ -56,7 +52,7 @@ module _ (reading : Reading) (port : ℕ) (bytes : List ℕ) where
   pub yielded_inside : (r : Record) (part : Part) → Inside bytes r → verdict reading port (record_bytes bytes r) ≡ Ok part → (part.start + part.len ≤ r.len) × (0 < part.len)
   yielded_inside r part i e = rw (inside_length bytes r i) at (payload_inside reading port (record_bytes bytes r) part e)
 
-  pub all_within : (records : List Record) → AllInside bytes records → AllOf (Within bytes) (places_of (yields_in reading port bytes records))
+  pub all_within : (records : List Record) → AllByRecursion (Inside bytes) records → AllByRecursion (Within bytes) (places_of (yields_in reading port bytes records))
   all_within records i = all_of (Within bytes) records (λ r m part e. let h = inside_of bytes records r i m in let k = yielded_inside r part h e in record { inside = omega arith; some = k.1 })
 
 -- The number is what the checks give: 0 accepts, and any other refuses.
@@ -84,7 +80,7 @@ module _ (number : ℕ) (places : List Place) (rank : ℕ) where
       either true = unwrap_or-slice_get places rank nowhere
       either false = refl
 
-  pub none_or_one : (P : Place → Type 0) → AllOf P places → NoneOfRank ⊎ P (handed_as number places rank)
+  pub none_or_one : (P : Place → Type 0) → AllByRecursion P places → NoneOfRank ⊎ P (handed_as number places rank)
   none_or_one P all =
       elim (ℕ_discrete number 0) [
         | yes a ↦
@@ -95,7 +91,7 @@ module _ (number : ℕ) (places : List Place) (rank : ℕ) where
         | no n ↦ inl (inl n)
       ]
 
-module _ (reading : Reading) (port number rank : ℕ) (bytes : List ℕ) (records : List Record) (inside : AllInside bytes records) where
+module _ (reading : Reading) (port number rank : ℕ) (bytes : List ℕ) (records : List Record) (inside : AllByRecursion (Inside bytes) records) where
   abbrev pub places : List Place
   places = places_of (yields_in reading port bytes records)
 
@@ -127,7 +123,7 @@ module _ (reading : Reading) (port rank : ℕ) (bytes : List ℕ) where
   abbrev records : List Record
   records = all_records_from (format_of reading bytes) bytes 24
 
-  lie_inside : AllInside bytes records
+  lie_inside : AllByRecursion (Inside bytes) records
   lie_inside = records_inside (format_of reading bytes) bytes (length bytes) 24
 
   pub part_inside : (place_of reading port rank bytes).start + (place_of reading port rank bytes).len ≤ length bytes
@@ -156,11 +152,11 @@ by_default None place e = rw (e.0, e.1.0, e.1.1.0, e.1.1.1.0, e.1.1.1.1.0, e.1.1
 by_default (Some p) place e = e
 
 -- ---- of a step
-pub of_step : (P : Place → Type 0) (c : Cursor) (bytes : List ℕ) (p : Place) (next : Cursor) → AllOf P (places_of (yields_after c bytes)) → step_of c bytes ≡ Some (p, next) → P p
+pub of_step : (P : Place → Type 0) (c : Cursor) (bytes : List ℕ) (p : Place) (next : Cursor) → AllByRecursion P (places_of (yields_after c bytes)) → step_of c bytes ≡ Some (p, next) → P p
 unfolding step_of
 of_step P c bytes p next all e = go (yields_after c bytes) all e
   where
-    go : (l : List Yield) → AllOf P (places_of l) → step_to c l ≡ Some (p, next) → P p
+    go : (l : List Yield) → AllByRecursion P (places_of l) → step_to c l ≡ Some (p, next) → P p
     go [] a q = absurd (cc)
     go (y ∷ l) a q =
         let both : ◌≡◌ {A = Place × Cursor} (y.place, moved_to c y.next) (p, next) = cc q in

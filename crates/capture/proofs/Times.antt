@@ -2,6 +2,7 @@
 -- rank and by step. Each record of the walk is the one that its own header states (`stated`), and a place takes header and time from its record. Without a payload
 -- the time is 0, in microseconds.
 use Rattle.std.proofs.Common.{refl, sym, ap, subst, inl, inr, arith, ℕ, ◌+◌, ◌≤◌, ◌≡◌, ◌⊎◌, List, length, Some}
+use Rattle.std.specs.List.{AllByRecursion}
 use Rattle.points.specs.ReadInto.{first_refusal}
 use Rattle.record_rule.specs.declared.Record.{Record}
 use Rattle.record_rule.specs.declared.reading.Reading.{Reading}
@@ -14,7 +15,7 @@ use Rattle.savefile.proofs.Records.{records_inside, stated}
 use Rattle.capture.specs.declared.walk.Cursor.{Cursor}
 use Rattle.capture.specs.declared.walk.Place.{Place}
 use Rattle.capture.specs.Payloads.{place_in, yields_in, yields_from, places_of, payloads, place_of, step_of}
-use Rattle.capture.proofs.Handed.{AllOf, NoneOfRank, all_of, yielded_inside, none_handed, none_or_one, of_step}
+use Rattle.capture.proofs.Handed.{NoneOfRank, all_of, yielded_inside, none_handed, none_or_one, of_step}
 
 -- A payload stands in the record whose header is told with it, one of those from a place on, and its time is the one stated there.
 pub record InRecord (format : RecordFormat) (bytes : List ℕ) (at : ℕ) (p : Place) : Type 0 where
@@ -24,7 +25,7 @@ pub record InRecord (format : RecordFormat) (bytes : List ℕ) (at : ℕ) (p : P
   pub time : p.time ≡ time_at format bytes p.header
 
 module _ (reading : Reading) (port : ℕ) (format : RecordFormat) (bytes : List ℕ) (at : ℕ) where
-  all_in_records : AllOf (InRecord format bytes at) (places_of (yields_in reading port bytes (all_records_from format bytes at)))
+  all_in_records : AllByRecursion (InRecord format bytes at) (places_of (yields_in reading port bytes (all_records_from format bytes at)))
   all_in_records =
       all_of reading port bytes (InRecord format bytes at) (all_records_from format bytes at)
       (λ r m part e.

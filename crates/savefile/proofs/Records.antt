@@ -3,9 +3,10 @@
 use Rattle.std.proofs.Common.{refl, sym, ap, ◌∙◌, subst, inl, inr, arith, lt_of_not-le, le-leb, ℕ, zero, suc, ◌+◌, ◌≤◌, ◌<◌, ◌≡◌, cond, List, [], ◌∷◌, leb, length, Some, None}
 use Rattle.std.proofs.Math.Decide.{dec_le}
 use Rattle.std.proofs.lemmas.Bool.{lt-leb}
+use Rattle.std.specs.List.{AllByRecursion}
 use Rattle.record_rule.specs.declared.Record.{Record}
 use Rattle.record_rule.specs.Captured.{record_end}
-use Rattle.record_rule.proofs.Inside.{Inside, AllInside, Among}
+use Rattle.record_rule.proofs.Inside.{Inside, Among}
 use Rattle.savefile.specs.declared.RecordFormat.{RecordFormat}
 use Rattle.savefile.specs.Savefile.{record_at, records_from}
 use Rattle.savefile.specs.Headers.{recorded_at}
@@ -38,13 +39,13 @@ module _ (format : RecordFormat) (bytes : List ℕ) where
       one_more b at h ∙ ap (λ (t : List Record). r ∷ t) (enough b (suc b) (record_end r) (omega arith) (omega arith))
 
   -- Each lies inside the data.
-  pub records_inside : (bound at : ℕ) → AllInside bytes (records_from bound format bytes at)
+  pub records_inside : (bound at : ℕ) → AllByRecursion (Inside bytes) (records_from bound format bytes at)
   unfolding records_from
   records_inside zero at = tt
   records_inside (suc bound) at =
       elim (dec_le (record_end (record_at format bytes at)) (length bytes)) [
-        | yes h ↦ subst (AllInside bytes) (sym (one_more bound at h)) (h, records_inside bound (record_end (record_at format bytes at)))
-        | no h ↦ subst (AllInside bytes) (sym (past (suc bound) at (lt_of_not-le h))) tt
+        | yes h ↦ subst (AllByRecursion (Inside bytes)) (sym (one_more bound at h)) (h, records_inside bound (record_end (record_at format bytes at)))
+        | no h ↦ subst (AllByRecursion (Inside bytes)) (sym (past (suc bound) at (lt_of_not-le h))) tt
       ]
 
   -- Each is the one that its own header states.
