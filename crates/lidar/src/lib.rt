@@ -3,7 +3,8 @@
 #![tactic(auto)]
 
 pub use capture::{
-    ByteOrder, Cursor, Place, Reading, RecordFormat, TimeUnit, Timestamp, open, open_as,
+    ByteOrder, Cursor, Place, Places, Reading, RecordFormat, TimeUnit, Timestamp, open, open_as,
+    places_from,
 };
 pub use kitti::{RecordNumber, read_kitti};
 pub use livox::read_livox;
