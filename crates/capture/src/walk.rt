@@ -114,10 +114,11 @@ impl<'a> Iterator for Places<'a> {
 
     ghost remaining = { item_count places_left };
 
-    #[tactic(auto, using(crate::proofs::Steps::step_payload, crate::proofs::Steps::step_end))]
+    #[tactic(auto, using(crate::proofs::Steps::step_payload, crate::proofs::Steps::step_end, crate::proofs::Steps::step_on))]
     fn next(&mut self) -> Option<Place> {
         let (place, next) = self.cursor.step(self.data)?;
-        self.cursor = next;
+        // The rest of the cursor is the same, and need not be copied.
+        self.cursor.at = next.at;
         Some(place)
     }
 }
