@@ -1,5 +1,5 @@
-// Ouster captures, and the settings of two Ouster sensors, as include/lidar.h declares the calls. Both readers have a
-// literal of the settings, which names each field; a function of three numbers would not.
+// Ouster captures, and the settings of two Ouster sensors, as include/lidar.h declares the calls. Both readers make the
+// settings of their parameters by a literal: a function of the three would be no shorter at its calls.
 
 #![tactic(auto)]
 

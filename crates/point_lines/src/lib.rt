@@ -20,8 +20,8 @@ pub fn point_line(kind: u8, x: u32, y: u32, z: u32) -> [u8; 29]
     line
 }
 
-// Eight lower-case hexadecimal digits. No `array::from_fn`: its closure would take two clauses of its own, and a proof
-// that a shift makes each power.
+// Eight lower-case hexadecimal digits, each by its power, as the definition has them. `array::from_fn` was tried: its
+// closure takes two clauses of its own, and a proof that a shift makes each power.
 #[tactic(auto, unfolding(crate::specs::PointLine::hex_digits))]
 pub fn hex(n: u32) -> [u8; 8]
     ensures { result ≡ hex_digits n }
