@@ -66,7 +66,7 @@ impl Refusal {
         }
     }
 
-    // The points that there should be room for. Other refusals tell none.
+    // The points that there should be room for. Other refusals tell 0, which C writes for them.
     pub fn points_needed(self) -> usize
         ensures { result ≡ refusal_points self }
     {

@@ -1,13 +1,13 @@
 -- What std's `from_le_bytes` and `from_be_bytes` make of bytes is their `value`, for any count of them: by induction over how many are summed up.
-use Rattle.std.proofs.Common.{◌≡◌, ℕ, zero, suc, Bool, true, false, refl, leb-true, length-drop, ◌+◌, ◌-◌, ◌*◌, ◌^◌, ◌≤◌, ◌<◌, one-mul, List, reverse, length, get_or, take, drop, nat_le, if◌then◌else◌, Some, None, arith, ◌∙◌, ap, length-take-le, take_all}
+use Rattle.std.proofs.Common.{◌≡◌, ℕ, zero, suc, refl, length-drop, ◌+◌, ◌-◌, ◌*◌, ◌^◌, ◌≤◌, ◌<◌, one-mul, List, reverse, length, get_or, take, drop, Some, arith, ◌∙◌, ap, length-take-le, take_all}
 use Rattle.std.specs.Int.{sum_through, byte_worth}
 use native.Mathlib.Nat.{pow-succ'}
 use Rattle.std.proofs.lemmas.List.{reverse-append}
 use Rattle.std.proofs.Math.Seq.{take-suc}
 use Rattle.fields.specs.declared.ByteOrder.{ByteOrder}
 use Rattle.fields.specs.declared.ByteOrder.TheVariants.{Little, Big}
-use Rattle.fields.specs.Number.{value, least_first, field}
-use Rattle.fields.proofs.Laws.{value-append, of_bytes}
+use Rattle.fields.specs.Number.{value, least_first, part_at, field}
+use Rattle.fields.proofs.Laws.{value-append, part_found, of_bytes}
 
 summed : (xs : List ℕ) (k : ℕ) → k < length xs → sum_through (λ i. byte_worth i (get_or xs i 0)) k ≡ value (take (suc k) xs)
 summed xs zero h =
@@ -54,14 +54,10 @@ made_is Big k bytes len =
     let none : k - k ≡ 0 = omega arith in
     rw (summed_back bytes k k (omega arith) (omega arith), whole, none, one-mul)
 
-found_is : (b : Bool) {bytes x : List ℕ} → Some bytes ≡ (if b then Some x else None) → (b ≡ true) × (bytes ≡ x)
-found_is true e = (refl, cc e)
-found_is false e = absurd (let never : ◌≡◌ {A = ℕ} 0 1 = cc e in omega arith)
-
 -- A number of k + 1 bytes, as code makes it of the bytes that it finds.
-pub number_found : (o : ByteOrder) (k : ℕ) (s : List ℕ) (off : ℕ) {bytes : List ℕ} {n : ℕ} → n ≡ made o k bytes → Some bytes ≡ (if nat_le (off + suc k) (length s) then Some (take (suc k) (drop off s)) else None) → Some n ≡ field (λ n. n) o (suc k) s off
+pub number_found : (o : ByteOrder) (k : ℕ) (s : List ℕ) (off : ℕ) {bytes : List ℕ} {n : ℕ} → n ≡ made o k bytes → Some bytes ≡ part_at (suc k) s off → Some n ≡ field (λ n. n) o (suc k) s off
 number_found o k s off {bytes} is found =
-    let there = found_is (nat_le (off + suc k) (length s)) found in
-    let inside : off + suc k ≤ length s = leb-true _ _ there.0 in
+    let there = part_found (suc k) s off found in
+    let inside = there.0 in
     let len : length bytes ≡ suc k = ap length there.1 ∙ length-take-le (suc k) (drop off s) (simp length-drop (omega arith)) in
     ap Some (is ∙ made_is o k bytes len) ∙ of_bytes (λ n. n) o (suc k) s off found

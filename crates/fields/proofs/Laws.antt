@@ -1,13 +1,13 @@
 -- Laws of `unsigned_at` and `field`, for either byte order. A number of two bytes that lie inside is written out (`number_two`), and one of k + k bytes is
 -- made of two of k (`number_halves`).
-use Rattle.std.proofs.Common.{◌≡◌, ℕ, zero, suc, ◌+◌, ◌*◌, ◌^◌, ◌≤◌, ◌<◌, Bool, true, if◌then◌else◌, nat_le, false, List, [], ◌∷◌, ◌++◌, reverse, length, get_or, take, drop, Option, Some, None, refl, sym, ap, ◌∙◌, arith, length-drop, drop-cons, zero-add, add_assoc, one-mul, mul-add, mul_assoc, take-add, take-take, drop-drop, length-take-le, le-leb}
+use Rattle.std.proofs.Common.{◌≡◌, ℕ, zero, suc, ◌+◌, ◌*◌, ◌^◌, ◌≤◌, ◌<◌, Bool, true, if◌then◌else◌, nat_le, false, List, [], ◌∷◌, ◌++◌, reverse, length, get_or, take, drop, Option, Some, None, refl, sym, ap, ◌∙◌, arith, length-drop, drop-cons, zero-add, add_assoc, one-mul, mul-add, mul_assoc, take-add, take-take, drop-drop, length-take-le, le-leb, leb-true, leb-false}
 use native.Mathlib.Nat.{pow-succ'}
 use Rattle.std.proofs.lemmas.Bool.{lt-leb}
 use Rattle.std.proofs.lemmas.List.{reverse-append, length-reverse}
 use Rattle.std.specs.Option.{option_map}
 use Rattle.fields.specs.declared.ByteOrder.{ByteOrder}
 use Rattle.fields.specs.declared.ByteOrder.TheVariants.{Little, Big}
-use Rattle.fields.specs.Number.{value, least_first, unsigned_at, field}
+use Rattle.fields.specs.Number.{value, least_first, unsigned_at, part_at, field}
 
 -- Two bytes that lie inside, each by its index.
 pub number_two : (o : ByteOrder) (s : List ℕ) (off : ℕ) → off + 2 ≤ length s → unsigned_at o 2 s off ≡ value (least_first o (get_or s off 0 ∷ get_or s (off + 1) 0 ∷ []))
@@ -69,13 +69,31 @@ module _ {A : Type 0} (wrap : ℕ → A) (o : ByteOrder) (k : ℕ) (s : List ℕ
       let long : length (take n (drop start s)) ≡ n = length-take-le n (drop start s) (simp length-drop (omega arith)) in
       rw (long, le-leb (off + k) n h, number_part o k s start n off h)
 
--- What code makes of the bytes that it finds, if it finds any, is the field.
+-- A part that is there, and one that is not.
+module _ (k : ℕ) (s : List ℕ) (off : ℕ) where
+  found : (b : Bool) {bytes x : List ℕ} → Some bytes ≡ (if b then Some x else None) → (b ≡ true) × (bytes ≡ x)
+  found true e = (refl, cc e)
+  found false e = absurd (let never : ◌≡◌ {A = ℕ} 0 1 = cc e in omega arith)
+
+  missing : (b : Bool) (x : List ℕ) → ◌≡◌ {A = Option (List ℕ)} None (if b then Some x else None) → b ≡ false
+  missing true x e = absurd (let never : ◌≡◌ {A = ℕ} 0 1 = cc e in omega arith)
+  missing false x e = refl
+
+  pub part_found : {bytes : List ℕ} → Some bytes ≡ part_at k s off → (off + k ≤ length s) × (bytes ≡ take k (drop off s))
+  unfolding part_at
+  part_found e = let there = found (nat_le (off + k) (length s)) e in (leb-true _ _ there.0, there.1)
+
+  pub part_missing : None ≡ part_at k s off → length s < off + k
+  unfolding part_at
+  part_missing e = leb-false _ _ (missing (nat_le (off + k) (length s)) _ e)
+
+-- What code makes of a part is the field.
 made : {A B : Type 0} (make : A → B) (b : Bool) (x : A) {found : Option A} → found ≡ (if b then Some x else None) → option_map make found ≡ (if b then Some (make x) else None)
 made make true x e = ap (option_map make) e
 made make false x e = ap (option_map make) e
 
-pub of_bytes : {A : Type 0} (wrap : ℕ → A) (o : ByteOrder) (k : ℕ) (s : List ℕ) (off : ℕ) {found : Option (List ℕ)} → found ≡ (if nat_le (off + k) (length s) then Some (take k (drop off s)) else None) → option_map (λ bs. wrap (value (least_first o bs))) found ≡ field wrap o k s off
-unfolding field unsigned_at
+pub of_bytes : {A : Type 0} (wrap : ℕ → A) (o : ByteOrder) (k : ℕ) (s : List ℕ) (off : ℕ) {found : Option (List ℕ)} → found ≡ part_at k s off → option_map (λ bs. wrap (value (least_first o bs))) found ≡ field wrap o k s off
+unfolding field unsigned_at part_at
 of_bytes wrap o k s off e = made (λ bs. wrap (value (least_first o bs))) (nat_le (off + k) (length s)) _ e
 
 -- What code makes of a reader's answer is a field that is wrapped anew.

@@ -21,6 +21,10 @@ unfoldable pub least_first : ByteOrder → List ℕ → List ℕ
 least_first Little bs = bs
 least_first Big bs = reverse bs
 
+-- The k bytes of s from off on, or none where they do not lie inside s.
+unfoldable pub part_at : ℕ → List ℕ → ℕ → Option (List ℕ)
+part_at k s off = if nat_le (off + k) (length s) then Some (take k (drop off s)) else None
+
 -- The number in the k bytes of s from off on. It tells something only where they lie inside s.
 unfoldable pub unsigned_at : ByteOrder → ℕ → List ℕ → ℕ → ℕ
 unfolding least_first

@@ -1,13 +1,13 @@
-// Byte readers: a number at any offset of a byte slice, in either byte order. A number that does not
-// lie whole inside the slice is told as missing.
+// Byte readers: some bytes, or a number, at any offset of a byte slice, in either byte order. What does not lie
+// whole inside the slice is told as missing.
 
 #![tactic(auto)]
 
-ghost use Rattle.std.specs.Prelude.{◌≡◌, ℕ, ◌+◌, if◌then◌else◌, Some, None, length, take, drop, nat_le};
+ghost use Rattle.std.specs.Prelude.{◌≡◌, ℕ};
 ghost use Rattle.std.specs.Float.{binary32};
 ghost use Rattle.std.specs.Float.Ieee.{of_bits};
 ghost use Rattle.std.specs.Option.{option_copied};
-ghost use Rattle.fields.specs.Number.{field};
+ghost use Rattle.fields.specs.Number.{field, part_at};
 ghost use Rattle.fields.specs.Signed.{signed};
 
 // Which byte of a number comes first: the least significant one, or the most significant one, as in
@@ -29,8 +29,8 @@ pub trait Field: Copy {
         ensures { result ≡ field of_unsigned order width «data».now off };
 }
 
-// A body for each width: Rattle takes no const argument that is computed, as the width of a type would be. And a
-// match in each: put in order first, the bytes are no longer one load for LLVM.
+// A body for each width: std's `from_le_bytes` is no method of a trait, and an impl may not come from a macro of
+// ours. And a match in each: put in order first, the bytes are no longer one load for LLVM.
 impl Field for u16 {
     ghost width = { 2 };
 
@@ -107,8 +107,9 @@ impl Field for f32 {
 }
 
 // The bytes from a place on, where so many are there.
-fn bytes_at<const N: usize>(data: &[u8], off: usize) -> Option<&[u8; N]>
-    ensures { option_copied result ≡ if nat_le (off + N) (length «data».now) then Some (take N (drop off «data».now)) else None }
+#[tactic(auto, unfolding(crate::specs::Number::part_at))]
+pub fn bytes_at<const N: usize>(data: &[u8], off: usize) -> Option<&[u8; N]>
+    ensures { option_copied result ≡ part_at N «data».now off }
 {
     data.get(off..)?.first_chunk()
 }

@@ -71,10 +71,11 @@ fn other(order: ByteOrder) -> ByteOrder
 }
 
 // The record at a place, where all of it is there.
+#[tactic(auto, using(fields::proofs::Laws::part_found))]
 pub fn record_at(data: &[u8], at: usize, format: RecordFormat) -> Option<Record>
     ensures { result ≡ recorded_at format «data».now at }
 {
-    let header: &[u8; RECORD_HEADER_LEN] = data.get(at..)?.first_chunk()?;
+    let header = fields::bytes_at::<RECORD_HEADER_LEN>(data, at)?;
     let body = at + RECORD_HEADER_LEN;
     let len = u32::read(header, 8, format.order)? as usize;
     if data.len() - body < len {
