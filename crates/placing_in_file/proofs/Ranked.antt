@@ -1,8 +1,7 @@
 -- Placing by file and rank is placing the stored reading of that rank, where there is one; else it gives the number that says why there is none. Demand 3 follows (`both`).
-use Rattle.std.proofs.Common.{◌≡◌, refl, sym, ap, ◌∙◌, ℕ, zero, suc, ◌≤◌, ◌<◌, zero-le, Bool, true, false, true≢false, cond, List, [], ◌∷◌, ◌++◌, length, slice_get, nat_le, Option, Some, None, Result, le-leb, arith}
-use Rattle.std.proofs.lemmas.Bool.{lt-leb}
+use Rattle.std.proofs.Common.{◌≡◌, refl, sym, ap, ◌∙◌, ℕ, zero, suc, List, [], ◌∷◌, ◌++◌, length, slice_get, nat_le, Option, Some, None, Result}
 use Rattle.points.specs.ReadInto.{first_refusal}
-use Rattle.points.proofs.ReadInto.{first_passes, first_decides}
+use Rattle.points.proofs.ReadInto.{first_decides}
 use Rattle.livox_form.specs.declared.Form.{Form}
 use Rattle.livox_header.specs.Header.{checks}
 use Rattle.livox_header.proofs.Opening.{numbered}
@@ -11,25 +10,12 @@ use Rattle.livox_file.specs.Livox.{stored}
 use Rattle.answers.specs.declared.Refusal.{Refusal}
 use Rattle.livox_stored.specs.declared.StoredReading.{StoredReading}
 use Rattle.livox_rank.specs.Ranks.{of_stored_answer, ranked_as, reading_of_rank}
+use Rattle.livox_rank.proofs.Ranks.{element, by_element, rank_passes}
 use Rattle.placing.specs.Placing.{by_reading, Placement, place, refused}
 use Rattle.placing.specs.Accuracy.{Accurate, seen_at}
 use Rattle.placing.proofs.Accuracy.{both, seen}
 use Rattle.placing.proofs.Checks.{file_refused, let_through, not_placeable}
 use Rattle.placing_in_file.specs.InFile.{along_if, by_rank}
-
-abbrev there : Option Stored → Bool
-there (Some reading) = true
-there None = false
-
-inside : (l : List Stored) (k : ℕ) (reading : Stored) → slice_get l k ≡ Some reading → k < length l
-inside [] k reading e = absurd (true≢false (sym (ap there e)))
-inside (x ∷ l) zero reading e = omega arith
-inside (x ∷ l) (suc k) reading e = omega (arith, inside l k reading e)
-
-past : (l : List Stored) (k : ℕ) → slice_get l k ≡ None → length l ≤ k
-past [] k e = zero-le
-past (x ∷ l) zero e = absurd (true≢false (ap there e))
-past (x ∷ l) (suc k) e = omega (arith, past l k e)
 
 seen_if : (reading : Option Stored) → along_if reading ≡ seen_at reading
 seen_if (Some reading) = seen reading
@@ -45,11 +31,11 @@ module _ (count datum pulse_length : ℕ) where
   placed (number, Some reading) = place (by_reading reading) count datum pulse_length
   placed (number, None) = refused number
 
-  -- which of the two the list decides
-  at_rank : (l : List Stored) (k : ℕ) → (o : Option Stored) → slice_get l k ≡ o → placed (ranked_as (cond (nat_le (length l) k) 11 0) o) ≡ place (record { checks = []; micrometres = along_if o }) count datum pulse_length
+  -- what the list has at the rank
+  at_element : (o : Option Stored) → placed (element o) ≡ place (record { checks = []; micrometres = along_if o }) count datum pulse_length
   unfolding first_refusal
-  at_rank l k (Some reading) e = rw (lt-leb (length l) k (inside l k reading e))
-  at_rank l k None e = rw (le-leb (length l) k (past l k e)) (not_placeable (record { checks = []; micrometres = None }) count datum pulse_length tt refl refl)
+  at_element (Some reading) = refl
+  at_element None = not_placeable (record { checks = []; micrometres = None }) count datum pulse_length tt refl refl
 
   module _ (form : Form) (bytes : List ℕ) (rank : ℕ) where
     pub ranked : placed (reading_of_rank form bytes rank) ≡ place (by_rank form bytes rank) count datum pulse_length
@@ -58,7 +44,9 @@ module _ (count datum pulse_length : ℕ) where
       where
         go : (n : ℕ) → first_refusal (checks form bytes) ≡ n
             → placed (ranked_as (first_refusal (checks form bytes ++ (11, nat_le (length (stored form bytes)) rank) ∷ [])) (slice_get (stored form bytes) rank)) ≡ place (by_rank form bytes rank) count datum pulse_length
-        go zero e = rw (first_passes (checks form bytes) _ (numbered form bytes) e) (at_rank (stored form bytes) rank _ refl ∙ let_through (by_rank form bytes rank) count datum pulse_length (numbered form bytes) e)
+        go zero e =
+            sym (ap placed (by_element (stored form bytes) rank ∙ rank_passes form bytes rank e)) ∙ at_element _
+            ∙ let_through (by_rank form bytes rank) count datum pulse_length (numbered form bytes) e
         go (suc n) e = rw (first_decides (checks form bytes) _ n e) (file_refused (by_rank form bytes rank) count datum pulse_length n e)
 
     -- The two ways of asking agree.
