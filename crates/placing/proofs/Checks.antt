@@ -1,18 +1,13 @@
 -- A placing, check by check: the checks of a file in their order, then 11, 12 and 13, then the distance (`by_checks`).
 use Rattle.std.proofs.Common.{◌≡◌, ℕ, zero, suc, ◌^◌, ◌<◌, ◌≤◌, Bool, true, false, ◌||◌, T, ltb, [], ℤ, pos, negsuc, sym, refl, ap, ◌∙◌, subst, le_trans, lt_of_le_of_lt, le→leb, lt→ltb, ltb-false, Float, Some, None}
 use Rattle.std.proofs.Math.Bool.{or-false}
-use Rattle.std.proofs.lemmas.Bool.{or_parts}
 use Rattle.std.specs.Float.Ieee.{binary32, in_float}
 use Rattle.std.specs.Int.Signed.{lt_z}
 use Rattle.points.specs.ReadInto.{first_refusal}
 use Rattle.points.proofs.ReadInto.{Numbered, first_decides, first_passes}
 use Rattle.placing.specs.Placing.{Asked, bad_pulse_length, checks_of, exact, exact_of, metres, outside, place, Placement, placement_of, pulses, refused, told}
 
--- What the checks say of a pulse length and of the micrometres, whatever their limits are: a pulse is no longer than its limit, and inside limits that 24 bits hold every
--- whole number is an f32.
-pub at_most : (limit length : ℕ) → (ltb length 1 || ltb limit length) ≡ false → length ≤ limit
-at_most limit length h = ltb-false limit length (or_parts (ltb length 1) (ltb limit length) h).1
-
+-- Inside limits that 24 bits hold, every whole number is an f32.
 pub castable : (low high : ℕ) → low < 2 ^ 24 → high ≤ 2 ^ 24 → (micrometres : ℤ) → (lt_z micrometres (negsuc low) || lt_z (pos high) micrometres) ≡ false → T (in_float binary32 micrometres)
 unfolding in_float
 castable low high l h (pos n) e = le→leb _ _ (le_trans (ltb-false high n e) h)

@@ -6,9 +6,10 @@ use Rattle.std.proofs.Math.Nat.{eq_of_mul-eq-mul_right}
 use Rattle.std.proofs.Math.Decide.{dec_le, ℕ_discrete}
 use Rattle.std.proofs.Math.Arith.{lt_of_le-ne}
 use Rattle.std.proofs.Math.IntN.{sub_ℕ}
+use Rattle.units.proofs.Halves.{unlike_plus}
 use Rattle.placing.specs.Accuracy.{exponent_bits, Finite, fraction_bits, magnitude, steps, Within}
 use Rattle.std.proofs.Math.Dec.{is_le, compare_is_eq, nleb→lt}
-use Rattle.std.specs.Float.Ieee.{nan, inf, fin, binary32, up, down, size, nearest, unlike, odd, round, div, of_int, of_fields, of_bits, to_bits, fits}
+use Rattle.std.specs.Float.Ieee.{nan, inf, fin, binary32, up, down, size, nearest, odd, round, div, of_int, of_fields, of_bits, to_bits, fits}
 use Rattle.std.specs.Float.Ieee.Digits.{size-le}
 use Rattle.std.specs.Float.Ieee.Fits.{down_pos, round_is, round-fits}
 use Rattle.std.specs.Float.Ieee.Exact.{HasValue, odd_sign, units_val}
@@ -89,10 +90,6 @@ round_value s n h =
     (units_val binary32 s (closest (n * 2 ^ 149) (1000000 * 2 ^ dropped n)) (dropped n) finite)
 
 -- ---- the quotient rounds once
-
-unlike_plus : (s : Bool) → unlike s false ≡ s
-unlike_plus true = refl
-unlike_plus false = refl
 
 div_million : (x : Float) (s : Bool) (n : ℕ) → HasValue x s n 1 → div binary32 x (round binary32 false 1000000 1) ≡ round binary32 s n 1000000
 unfolding div

@@ -18,7 +18,7 @@ round_at s {a} {c} n C e = round_same binary32 s a c n 1 C (lit< tt) (mul-one a 
 abbrev pub base : Float
 base = of_bits binary32 0x47800000
 
-unlike_plus : (t : Bool) → unlike t false ≡ t
+pub unlike_plus : (t : Bool) → unlike t false ≡ t
 unlike_plus true = refl
 unlike_plus false = refl
 
