@@ -51,7 +51,7 @@ pub fn judge(bytes: &[u8], reading: Reading, port: u16) -> Result<Part, PassedOv
     if bytes[ip + 9] != 17 {
         return Err(PassedOver::NotUdp);
     }
-    judge_udp(bytes, ip, (first % 16) as usize, reading, port)
+    judge_udp(bytes, ip, usize::from(first % 16), reading, port)
 }
 
 // The tests from the IHL on.

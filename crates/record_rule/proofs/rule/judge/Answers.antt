@@ -40,7 +40,7 @@ returns-then-bytes-ip-ne17 c =
 pub judge_udp-requires : goal.judge_udp-requires
 judge_udp-requires c =
     let at = c.type_at-type_at.ensures.place in
-    (search rules, ip_is _ _ at, omega arith, ihl_is _ _ at, search rules)
+    (search rules, ip_is _ _ at, omega arith, c.from.ensures ∙ ihl_is _ _ at, search rules)
 
 pub returns : goal.returns
 unfolding first_that
