@@ -236,7 +236,7 @@ fn with_digit(n: u64, b: u8) -> u64
     ensures { result ≡ with_digit n b }
 {
     if n < 1844674407370955161 {
-        n * 10 + (b % 16) as u64
+        n * 10 + u64::from(b % 16)
     } else {
         n
     }
