@@ -65,6 +65,7 @@ pub extern "C" fn lidar_decode_velodyne_packet(
     )
 }
 
+// C gets the model's number in include/lidar.h as a byte, since a C enum's size is its compiler's choice.
 #[unsafe(no_mangle)]
 pub extern "C" fn lidar_detect_velodyne_model(factory_byte: u8) -> u8
     ensures { result ≡ model_number (model_of factory_byte) }

@@ -11,7 +11,7 @@ use record_rule::{Part, Reading, Record, Timestamp};
 use savefile::RecordFormat;
 
 // Where a payload stands: its record's header, its first byte, and its length. And when its record was captured.
-// The default, all zeros, is no payload's, since none starts at 0.
+// The default, all zeros, is no payload's, since none starts at 0. It is no `Record`, which says where a record's captured bytes stand.
 #[derive(Clone, Copy, Debug, Default, PartialEq, Eq)]
 pub struct Place {
     pub header: usize,

@@ -15,7 +15,8 @@ pub trait Calls {
     fn tell<R: Eprint, W: Write>(&self, out: &mut Console<'_, R, W>, case: &Case<'_>, data: &[u8]);
 }
 
-// Runs a list of cases, a line for each, and answers whether it could read the whole list.
+// Runs a list of cases, a line for each, and answers whether it could read the whole list. A bool, as Console answers:
+// why it could not has been told already.
 pub fn run<C: Calls, R: Eprint, W: Write, I: Read>(
     calls: &C,
     out: &mut Console<'_, R, W>,

@@ -198,7 +198,8 @@ fn lay_hex(hex: &[u8], at: usize, space: &mut [u8])
     }
 }
 
-// Past the end nothing is put. By index: once a borrow by `get_mut` or `iter_mut` is over, a proof knows no element.
+// Past the end nothing is put. By index: after `get_mut`, or an adapter of `iter_mut`, a proof knows no element, and a
+// plain `for` over `iter_mut` would go through the whole space.
 fn put(space: &mut [u8], at: usize, i: usize, b: u8)
     ensures { space.new ≡ set space.old (at + i) b }
 {

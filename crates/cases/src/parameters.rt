@@ -6,7 +6,7 @@ use case_words::Case;
 use lidar::{OusterSettings, Reading};
 use std::array;
 
-// There is room for eight points at most.
+// There is room for eight points at most. Here and in `port` a number is cut on purpose, so that a list may name any.
 pub(crate) fn room(case: &Case<'_>) -> usize
     ensures { result ≤ 8 }
 {

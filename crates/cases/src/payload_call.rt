@@ -25,6 +25,7 @@ pub(crate) fn tell<R: Eprint, W: Write>(out: &mut Console<'_, R, W>, case: &Case
     out.print_next(payload.time.fraction);
     out.print_next(payload.time.unit.number());
     out.write(b" ");
+    // `replay` has this loop, too: a function for both would need a contract, and save nothing.
     for byte in payload.bytes {
         out.print(format_args!("{byte:02x}"));
     }

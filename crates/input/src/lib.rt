@@ -65,7 +65,8 @@ pub fn ended(len: usize, room: usize, more: io::Result<usize>) -> Result<(), Unr
     }
 }
 
-// One read: how many bytes it put at the front of buf, and 0 where it failed.
+// One read: how many bytes it put at the front of buf, and 0 where it failed. No Result: `read_full` is public and always
+// answers a count, and one read more tells why it stopped.
 fn read<R: Read>(reader: &mut R, buf: &mut [u8]) -> usize
     ensures within { result ≤ length buf.new }
     ensures bytes { Consumes (R.remaining reader.old) (R.remaining reader.new) (take result buf.new) }

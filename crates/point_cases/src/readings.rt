@@ -11,6 +11,7 @@ pub(crate) const SPHERICAL: StoredReading = StoredReading::Spherical {
 
 pub(crate) const FLOAT: StoredReading = StoredReading::Float(0x3f800000, 0, 0);
 
+// A function for each unit, since each has a tuple struct of its own, and numbers of its own width.
 pub(crate) fn millimetres(data: &[u8]) -> StoredReading {
     let Some(x) = i32::read(data, 0, ByteOrder::Little) else {
         return SPHERICAL;

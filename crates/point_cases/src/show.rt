@@ -18,6 +18,7 @@ pub(crate) fn stored<R: Eprint, W: Write>(
     }
 }
 
+// `c_rank` matches the same, but tells C each number's value as an i64; here it is its 32 bits.
 fn stored_reading<R: Eprint, W: Write>(out: &mut Console<'_, R, W>, reading: StoredReading) {
     let (name, numbers) = match reading {
         StoredReading::Millimetres(x, y, z) => (" millimetres", [x.0, y.0, z.0].map(bits)),

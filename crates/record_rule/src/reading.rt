@@ -10,7 +10,7 @@ pub enum Reading {
 }
 
 impl Reading {
-    // The reading of a caller who names none. It is no Default, since the definition of this name says which one that is.
+    // The reading of a caller who names none. It is no Default: `usual` is its name in the definitions and at its callers.
     pub fn usual() -> Self
         ensures { result ≡ usual }
     {

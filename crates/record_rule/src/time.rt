@@ -20,7 +20,7 @@ pub struct Timestamp {
 }
 
 impl TimeUnit {
-    // The number that C and the lists of cases have for it.
+    // The number that C and the lists of cases have for it. A method, since `u8::from` would not say which number that is.
     pub fn number(self) -> u8
         ensures { result ≡ unit_number self }
     {

@@ -10,6 +10,7 @@ use std::io::{Read, Write};
 use std::rt::Runtime;
 use std::{fs, io, str};
 
+// As `velodyne` has it; this program reads captures alone, and needs no reader.
 const VELODYNE_DATA_PORT: u16 = 2368;
 
 // Goes on while what is shown can be written.
@@ -20,6 +21,7 @@ fn main(rt: HostRuntime) {
         out: io::writer(&rt),
     };
     let mut name = [0u8; 64];
+    // By place: std's `env::args` collects the arguments in a `Vec` of `String`s, and this program allocates nothing.
     for i in 1..usize::MAX {
         match rt.arg(i, &mut name) {
             Ok(n) => {
@@ -136,6 +138,7 @@ fn show_rank<R: Runtime, W: Write>(out: &mut Console<'_, R, W>, data: &[u8], ran
         TimeUnit::Microseconds => b" us ",
         TimeUnit::Nanoseconds => b" ns ",
     });
+    // `cases` has this loop, too: a function for both would need a contract, and save nothing.
     for byte in payload.bytes {
         out.print(format_args!("{byte:02x}"));
     }
