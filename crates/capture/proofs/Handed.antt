@@ -1,12 +1,13 @@
 -- Laws that a promise rests on: each payload lies inside the data and is not empty (`all_within`), so the part that is handed back is empty exactly if the
 -- capture is refused or has no payload of that rank (`empty_if`, `empty_only_if`). They hold for any records that lie inside the data, wherever these come from,
 -- for any number that the checks give, any reading and any port. Then the same of a savefile's records, and of a step.
-use Rattle.std.proofs.Common.{refl, ap, subst, inl, inr, arith, zero-le, lt_of_not-le, length-take, length-drop, ne_eqb, ℕ, zero, suc, ◌+◌, ◌≤◌, ◌<◌, ◌≡◌, ◌⊎◌, Bool, true, false, cond, List, [], ◌∷◌, ◌++◌, eqb, length, get_or, slice_get, unwrap_or, Option, Some, None, Ok, Err}
+use Rattle.std.proofs.Common.{refl, ap, subst, inl, inr, arith, zero-le, lt_of_not-le, length-take, length-drop, ne_eqb, ℕ, ◌+◌, ◌≤◌, ◌<◌, ◌≡◌, ◌⊎◌, Bool, true, false, cond, List, [], ◌∷◌, ◌++◌, eqb, length, get_or, slice_get, unwrap_or, Option, Some, None, Ok, Err}
 use Rattle.std.specs.List.{AllByRecursion}
 use Rattle.std.specs.Option.{UnwrapsOrElse}
 use Rattle.std.proofs.Math.Decide.{dec_le, ℕ_discrete}
 use Rattle.std.proofs.lemmas.Option.{unwrap_or-slice_get}
 use Rattle.std.proofs.lemmas.List.{get_or_past}
+use Rattle.std.proofs.lemmas.List.Elements.{All-get_or, All-from_recursion}
 use mathlib.Core.List.{flat_map}
 use Rattle.points.specs.ReadInto.{first_refusal}
 use Rattle.record_rule.specs.declared.Record.{Record}
@@ -26,11 +27,6 @@ use Rattle.capture.specs.Payloads.{place_in, Yield, yield_at, yield_of, yields_i
 pub record Within (bytes : List ℕ) (p : Place) : Type 0 where
   pub inside : p.start + p.len ≤ length bytes
   pub some : 0 < p.len
-
-at_rank : (P : Place → Type 0) (places : List Place) (rank : ℕ) → AllByRecursion P places → rank < length places → P (get_or places rank nowhere)
-at_rank P [] rank a h = absurd (omega arith)
-at_rank P (p ∷ places) zero a h = a.0
-at_rank P (p ∷ places) (suc rank) a h = at_rank P places rank a.1 (omega arith)
 
 -- ---- of any records inside the data
 with_one : (P : Place → Type 0) (r : Record) (v : Verdict) (later : List Yield) → ((part : Part) → v ≡ Ok part → P (place_in r part)) → AllByRecursion P (places_of later)
@@ -86,7 +82,7 @@ module _ (number : ℕ) (places : List Place) (rank : ℕ) where
         | yes a ↦
             elim (dec_le (length places) rank) [
               | yes h ↦ inl (inr h)
-              | no h ↦ inr (rw (accepted a) (at_rank P places rank all (lt_of_not-le h)))
+              | no h ↦ inr (rw (accepted a) (All-get_or P places rank nowhere (lt_of_not-le h) (All-from_recursion P places all)))
             ]
         | no n ↦ inl (inl n)
       ]
