@@ -7,7 +7,7 @@ use Rattle.record_rule.specs.Captured.{record_bytes, record_end}
 abbrev pub Inside : List ℕ → Record → Type 0
 Inside bytes r = record_end r ≤ length bytes
 
--- A record is one of some.
+-- A record is one of some. No `Contains` of std, which is by index: the laws over records, and `InRecord` of capture, which they prove, go along the list.
 abbrev pub Among : Record → List Record → Type 0
 Among r [] = ⊥
 Among r (first ∷ records) = (r ≡ first) ⊎ Among r records

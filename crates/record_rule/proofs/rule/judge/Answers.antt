@@ -1,4 +1,5 @@
 -- `record_rule::judge` meets its contract. What code reads are the definition's fields, and each way out is a case of its tests.
+-- Four answers have the same `is`, as the context `c` of each has another type.
 use Rattle.std.proofs.Common.{◌∙◌, arith, rules, le-ltb, eq-eqb, ne_eqb, ℕ, ◌≤◌, ◌≡◌, List, length, Some}
 use Rattle.fields.specs.Number.{big, field}
 use Rattle.fields.proofs.Opened.{is_number, never_missing}
