@@ -1,5 +1,4 @@
-// Ouster captures, and the settings of two Ouster sensors, as include/lidar.h declares the calls. Both readers make the
-// settings of their parameters by a literal: a function of the three would be no shorter at its calls.
+// Ouster captures, and the settings of two Ouster sensors, as include/lidar.h declares the calls.
 
 #![tactic(auto)]
 
@@ -28,11 +27,7 @@ pub extern "C" fn lidar_read_ouster(
 ) -> u8
     ensures { outcome result points.new frames.new numbers.new kinds.new ≡ read_ouster usual (settings_of columns_per_packet pixels_per_column lidar_port) beam_altitudes.now «data».now numbers.old kinds.old }
 {
-    let settings = OusterSettings {
-        columns_per_packet,
-        pixels_per_column,
-        lidar_port,
-    };
+    let settings = settings_of(columns_per_packet, pixels_per_column, lidar_port);
     tell(
         ouster::read_ouster(data, settings, beam_altitudes, numbers, kinds),
         points,
@@ -56,16 +51,27 @@ pub extern "C" fn lidar_read_ouster_as(
     ensures { outcome result points.new frames.new numbers.new kinds.new ≡ read_ouster (reading_of savefile) (settings_of columns_per_packet pixels_per_column lidar_port) beam_altitudes.now «data».now numbers.old kinds.old }
 {
     let reading = reading_of(savefile);
-    let settings = OusterSettings {
-        columns_per_packet,
-        pixels_per_column,
-        lidar_port,
-    };
+    let settings = settings_of(columns_per_packet, pixels_per_column, lidar_port);
     tell(
         ouster::read_ouster_as(data, reading, settings, beam_altitudes, numbers, kinds),
         points,
         frames,
     )
+}
+
+// C has the settings as three numbers.
+fn settings_of(
+    columns_per_packet: usize,
+    pixels_per_column: usize,
+    lidar_port: u16,
+) -> OusterSettings
+    ensures { result ≡ settings_of columns_per_packet pixels_per_column lidar_port }
+{
+    OusterSettings {
+        columns_per_packet,
+        pixels_per_column,
+        lidar_port,
+    }
 }
 
 #[unsafe(no_mangle)]
