@@ -1,10 +1,12 @@
 // A record's rule: the Ethernet, IPv4 and UDP steps from a record to its payload.
 
-ghost use Rattle.std.specs.Prelude.{◌≡◌, not, ◌&&◌, ◌+◌, ◌≤◌, ◌<◌, eqb, ltb, length};
-ghost use Rattle.fields.specs.Number.{big, unsigned_at};
+ghost use Rattle.std.specs.Prelude.{◌≡◌, not, ◌&&◌, ◌||◌, [], ◌∷◌, ◌+◌, ◌≤◌, ◌<◌, leb, ltb, eqb, length, Ok};
+ghost use Rattle.record_rule.specs.declared.reading.Reading.TheVariants.{Rust, Savefile};
+ghost use Rattle.record_rule.specs.declared.rule.PassedOver.TheVariants.{ShortIpHeader, Fragment, BadUdpLength, NothingFollows};
 ghost use Rattle.record_rule.specs.Ethernet.{type_at, ip_start};
-ghost use Rattle.record_rule.specs.Ipv4.{ihl};
-ghost use Rattle.record_rule.specs.Record.{asks_ihl, first_that, udp_tests, payload_of, verdict};
+ghost use Rattle.record_rule.specs.Ipv4.{ihl, is_fragment, udp_start};
+ghost use Rattle.record_rule.specs.Udp.{destination_port, bad_udp_length, payload_start};
+ghost use Rattle.record_rule.specs.Record.{first_that, udp_header_tests, udp_tests, payload_of, verdict};
 
 use crate::reading::Reading;
 use fields::{ByteOrder, Field};
@@ -17,8 +19,10 @@ pub enum PassedOver {
     WrongVersion,
     NotUdp,
     ShortIpHeader,
+    Fragment,
     UdpPastEnd,
     OtherPort,
+    BadUdpLength,
     NothingFollows,
 }
 
@@ -54,7 +58,7 @@ pub fn judge(bytes: &[u8], reading: Reading, port: u16) -> Result<Part, PassedOv
     judge_udp(bytes, ip, usize::from(first % 16), reading, port)
 }
 
-// The tests from the IHL on.
+// The tests from the IHL on that the reading has.
 fn judge_udp(
     bytes: &[u8],
     ip: usize,
@@ -65,17 +69,78 @@ fn judge_udp(
     requires { (42 ≤ length bytes.now) × (ip ≡ ip_start bytes.now) × (ip ≤ 18) × (words ≡ ihl bytes.now) × (words < 16) }
     ensures { result ≡ first_that (udp_tests reading port bytes.now) (payload_of reading bytes.now) }
 {
-    if refuses_ihl(reading, words) {
+    let udp = ip + words * 4;
+    match reading {
+        Reading::Rust => {
+            check_udp_header(bytes, udp, port)?;
+            to_record_end(bytes, udp)
+        }
+        Reading::Savefile => {
+            check_ip_header(bytes, ip, words)?;
+            check_udp_header(bytes, udp, port)?;
+            to_udp_length(bytes, udp)
+        }
+    }
+}
+
+// A long enough header, and no fragment: tests of the savefile reading alone.
+#[tactic(auto, unfolding(crate::specs::Record::first_that), using(std::proofs::lemmas::Bool::Decides::nat_tests))]
+fn check_ip_header(bytes: &[u8], ip: usize, words: usize) -> Result<(), PassedOver>
+    requires { (42 ≤ length bytes.now) × (ip ≡ ip_start bytes.now) × (ip ≤ 18) × (words ≡ ihl bytes.now) }
+    ensures { result ≡ first_that ((ShortIpHeader, ltb (ihl bytes.now) 5) ∷ (Fragment, is_fragment bytes.now) ∷ []) (Ok tt) }
+{
+    if words < 5 {
         return Err(PassedOver::ShortIpHeader);
     }
-    let udp = ip + words * 4;
-    let start = udp + 8;
-    if bytes.len() < start {
+    if is_fragment(bytes, ip) {
+        return Err(PassedOver::Fragment);
+    }
+    Ok(())
+}
+
+// More-fragments and the offset are the low 14 bits.
+fn is_fragment(bytes: &[u8], ip: usize) -> bool
+    requires { (42 ≤ length bytes.now) × (ip ≡ ip_start bytes.now) × (ip ≤ 18) }
+    ensures { result ≡ is_fragment bytes.now }
+{
+    let Some(field) = u16::read(bytes, ip + 6, ByteOrder::Big) else {
+        return true;
+    };
+    field % 0x4000 != 0
+}
+
+// The UDP header fits, and its port was asked for.
+#[tactic(auto, unfolding(crate::specs::Record::first_that, crate::specs::Record::udp_header_tests, crate::specs::Udp::payload_start), using(std::proofs::lemmas::Bool::Decides::nat_tests))]
+fn check_udp_header(bytes: &[u8], udp: usize, port: u16) -> Result<(), PassedOver>
+    requires { (udp ≡ udp_start bytes.now) × (udp ≤ 78) }
+    ensures { result ≡ first_that (udp_header_tests port bytes.now) (Ok tt) }
+{
+    if bytes.len() < udp + 8 {
         return Err(PassedOver::UdpPastEnd);
     }
     if is_other_port(bytes, udp, port) {
         return Err(PassedOver::OtherPort);
     }
+    Ok(())
+}
+
+fn is_other_port(bytes: &[u8], udp: usize, port: u16) -> bool
+    requires { (udp ≡ udp_start bytes.now) × (udp + 8 ≤ length bytes.now) }
+    ensures { result ≡ (not (eqb port 0) && not (eqb (destination_port bytes.now) port)) }
+{
+    let Some(destination) = u16::read(bytes, udp + 2, ByteOrder::Big) else {
+        return true;
+    };
+    port != 0 && destination != port
+}
+
+// All that follows the UDP header.
+#[tactic(auto, unfolding(crate::specs::Record::first_that, crate::specs::Udp::payload_start, crate::specs::Udp::payload_len), using(std::proofs::lemmas::Bool::Decides::nat_tests))]
+fn to_record_end(bytes: &[u8], udp: usize) -> Result<Part, PassedOver>
+    requires { (udp ≡ udp_start bytes.now) × (udp + 8 ≤ length bytes.now) }
+    ensures { result ≡ first_that ((NothingFollows, leb (length bytes.now) (payload_start bytes.now)) ∷ []) (payload_of Rust bytes.now) }
+{
+    let start = udp + 8;
     if bytes.len() <= start {
         return Err(PassedOver::NothingFollows);
     }
@@ -83,23 +148,31 @@ fn judge_udp(
     Ok(Part { start, len })
 }
 
-fn refuses_ihl(reading: Reading, words: usize) -> bool
-    ensures { result ≡ (asks_ihl reading && ltb words 5) }
+// As much of what follows the UDP header as its length says.
+fn to_udp_length(bytes: &[u8], udp: usize) -> Result<Part, PassedOver>
+    requires { (udp ≡ udp_start bytes.now) × (udp + 8 ≤ length bytes.now) }
+    ensures { result ≡ first_that ((BadUdpLength, bad_udp_length bytes.now) ∷ []) (payload_of Savefile bytes.now) }
 {
-    match reading {
-        Reading::Rust => false,
-        Reading::Savefile => words < 5,
+    let held = bytes.len() - udp;
+    let Some(stated) = u16::read(bytes, udp + 4, ByteOrder::Big) else {
+        return Err(PassedOver::BadUdpLength);
+    };
+    let stated = usize::from(stated);
+    if is_bad_length(stated, held) {
+        return Err(PassedOver::BadUdpLength);
     }
+    let len = stated - 8;
+    Ok(Part {
+        start: udp + 8,
+        len,
+    })
 }
 
-fn is_other_port(bytes: &[u8], udp: usize, port: u16) -> bool
-    requires { udp + 8 ≤ length bytes.now }
-    ensures { result ≡ (not (eqb port 0) && not (eqb (unsigned_at big 2 bytes.now (udp + 2)) port)) }
+// It leaves no byte of payload, or is more than the record holds from the UDP header on.
+fn is_bad_length(stated: usize, held: usize) -> bool
+    ensures { result ≡ (ltb stated 9 || ltb held stated) }
 {
-    let Some(destination) = u16::read(bytes, udp + 2, ByteOrder::Big) else {
-        return true;
-    };
-    port != 0 && destination != port
+    stated < 9 || held < stated
 }
 
 // Where the EtherType stands: after one tag, or without one.

@@ -1,30 +1,50 @@
--- `record_rule::judge_udp` meets its contract. What code computes are the definition's places (`told_is`), and each way out is the first test that applies.
-use Rattle.std.proofs.Common.{sym, ◌∙◌, lt-ltb, le-ltb, le-leb}
-use Rattle.std.proofs.lemmas.Bool.{lt-leb}
-use Rattle.record_rule.specs.Record.{first_that}
-use Rattle.record_rule.proofs.Tests.{told_is}
+-- `record_rule::judge_udp` meets its contract. The UDP header stands where the definition says (`udp_is`), and the lists of tests are made one after the other.
+use Rattle.std.proofs.Common.{sym, ◌∙◌, arith, rules, ◌≡◌, Err}
+use Rattle.record_rule.specs.Record.{udp_tests}
+use Rattle.record_rule.proofs.Tests.{udp_is, fits, stops, goes_on}
 use Rattle.record_rule.proofs.rule.judge_udp.Goals as goal
 
-pub returns-then-refuses_ihl : goal.returns-then-refuses_ihl
-unfolding first_that
-returns-then-refuses_ihl c = rw (sym c.refuses_ihl.ensures ∙ c.if-refuses_ihl.true) at (told_is c.args.reading c.args.port _ _ _ c.requires.1 c.requires.3)
+pub check_udp_header-requires : goal.check_udp_header-requires
+check_udp_header-requires c = (udp_is _ _ _ c.requires.1 c.requires.3, omega arith)
 
-pub returns-then-bytes-start : goal.returns-then-bytes-start
-unfolding first_that
-returns-then-bytes-start c =
-    rw (sym c.refuses_ihl.ensures ∙ c.if-refuses_ihl.false, lt-ltb _ _ c.if-bytes-start.true) at (told_is c.args.reading c.args.port _ _ _ c.requires.1 c.requires.3)
+pub check_udp_header-requires-in-Savefile : goal.check_udp_header-requires-in-Savefile
+check_udp_header-requires-in-Savefile c = (udp_is _ _ _ c.requires.1 c.requires.3, omega arith)
 
-pub returns-then-is_other_port : goal.returns-then-is_other_port
-unfolding first_that
-returns-then-is_other_port c =
-    rw (sym c.refuses_ihl.ensures ∙ c.if-refuses_ihl.false, le-ltb _ _ c.if-bytes-start.false, sym c.is_other_port.ensures ∙ c.if-is_other_port.true) at (told_is c.args.reading c.args.port _ _ _ c.requires.1 c.requires.3)
+pub to_record_end-requires : goal.to_record_end-requires
+to_record_end-requires c = fits _ _ _ (udp_is _ _ _ c.requires.1 c.requires.3) (sym c.check_udp_header.ensures ∙ c.in_ok-check_udp_header-in-Rust.was)
 
-pub returns-then-bytes-start-2 : goal.returns-then-bytes-start-2
-unfolding first_that
-returns-then-bytes-start-2 c =
-    rw (sym c.refuses_ihl.ensures ∙ c.if-refuses_ihl.false, le-ltb _ _ c.if-bytes-start.false, sym c.is_other_port.ensures ∙ c.if-is_other_port.false, le-leb _ _ c.if-bytes-start-2.true) at (told_is c.args.reading c.args.port _ _ _ c.requires.1 c.requires.3)
+pub to_udp_length-requires : goal.to_udp_length-requires
+to_udp_length-requires c = fits _ _ _ (udp_is _ _ _ c.requires.1 c.requires.3) (sym c.check_udp_header-in-Savefile.ensures ∙ c.in_ok-check_udp_header-in-Savefile.was)
 
-pub returns : goal.returns
-unfolding first_that
-returns c =
-    rw (sym c.refuses_ihl.ensures ∙ c.if-refuses_ihl.false, le-ltb _ _ c.if-bytes-start.false, sym c.is_other_port.ensures ∙ c.if-is_other_port.false, lt-leb _ _ c.if-bytes-start-2.false) at (told_is c.args.reading c.args.port _ _ _ c.requires.1 c.requires.3)
+pub returns-in_err-check_udp_header-in-Rust : goal.returns-in_err-check_udp_header-in-Rust
+unfolding udp_tests
+returns-in_err-check_udp_header-in-Rust c =
+    let refused : c.from_residual.result ≡ Err c.in_err-check_udp_header-in-Rust.field-0.0 = search rules in
+    rw (c.in-Rust.is, refused) (stops _ _ _ _ (sym c.check_udp_header.ensures ∙ c.in_err-check_udp_header-in-Rust.was))
+
+pub returns-in_ok-check_udp_header-in-Rust : goal.returns-in_ok-check_udp_header-in-Rust
+unfolding udp_tests
+returns-in_ok-check_udp_header-in-Rust c =
+    rw c.in-Rust.is (c.to_record_end.ensures ∙ goes_on _ _ _ (sym c.check_udp_header.ensures ∙ c.in_ok-check_udp_header-in-Rust.was))
+
+pub returns-in_err-check_ip_header-in-Savefile : goal.returns-in_err-check_ip_header-in-Savefile
+unfolding udp_tests
+returns-in_err-check_ip_header-in-Savefile c =
+    let refused : c.from_residual-in_err-check_ip_header-in-Savefile.result ≡ Err c.in_err-check_ip_header-in-Savefile.field-0.0 = search rules in
+    rw (c.in-Savefile.is, refused) (stops _ _ _ _ (sym c.check_ip_header.ensures ∙ c.in_err-check_ip_header-in-Savefile.was))
+
+pub returns-in_err-check_udp_header-in-Savefile : goal.returns-in_err-check_udp_header-in-Savefile
+unfolding udp_tests
+returns-in_err-check_udp_header-in-Savefile c =
+    let refused : c.from_residual-in_err-check_udp_header-in-Savefile.result ≡ Err c.in_err-check_udp_header-in-Savefile.field-0.0 = search rules in
+    rw (c.in-Savefile.is, refused)
+    (stops _ _ _ _ (sym c.check_udp_header-in-Savefile.ensures ∙ c.in_err-check_udp_header-in-Savefile.was)
+    ∙ goes_on _ _ _ (sym c.check_ip_header.ensures ∙ c.in_ok-check_ip_header-in-Savefile.was))
+
+pub returns-in_ok-check_udp_header-in-Savefile : goal.returns-in_ok-check_udp_header-in-Savefile
+unfolding udp_tests
+returns-in_ok-check_udp_header-in-Savefile c =
+    rw c.in-Savefile.is
+    (c.to_udp_length.ensures
+    ∙ goes_on _ _ _ (sym c.check_udp_header-in-Savefile.ensures ∙ c.in_ok-check_udp_header-in-Savefile.was)
+    ∙ goes_on _ _ _ (sym c.check_ip_header.ensures ∙ c.in_ok-check_ip_header-in-Savefile.was))
