@@ -12,8 +12,8 @@ use Rattle.record_rule.specs.declared.reading.Reading.{Reading}
 use Rattle.record_rule.specs.declared.time.TimeUnit.{TimeUnit}
 use Rattle.capture.specs.declared.walk.Place.{Place}
 use Rattle.record_rule.specs.Ethernet.{ether_type, ip_start}
-use Rattle.record_rule.specs.Ipv4.{version, ihl, protocol, udp_start}
-use Rattle.record_rule.specs.Udp.{destination_port, payload_start, payload_len}
+use Rattle.record_rule.specs.Ipv4.{version, ihl, flags_and_offset, more_fragments, fragment_offset, is_fragment, protocol, udp_start}
+use Rattle.record_rule.specs.Udp.{destination_port, udp_length, held_from_udp, bad_udp_length, payload_start, payload_len}
 use Rattle.record_rule.specs.Record.{verdict}
 use Rattle.savefile.specs.Savefile
 use Rattle.capture.specs.Payloads
@@ -82,7 +82,7 @@ placed_as micrometres (Placing.refused number) = placed number micrometres 0
 
 -- The unfolding line names all that these definitions compute by, so that a proof unfolds `tell` alone.
 unfoldable pub tell : Call → Told
-unfolding flat_map of_bits to_bits unsigned_at over first_refusal read_into Kitti.checks Kitti.points_as Savefile.format_of Savefile.checks ether_type ip_start version ihl protocol udp_start destination_port payload_start payload_len verdict opening places_from Payloads.payloads Payloads.place_of Savefile.file_checks number_given no_payload_check points_in tabulate gather round of_int add sub mul div lt le metres_of_two_millimetres degrees_by_division half_step_between turned vlp16_vert hdl32e_vert linear linear_elevations Packet.packet_points Velodyne.checks signed metres_of_millimetres Header.checks Livox.points Livox.point_bits Livox.frames Placing.pulses Placing.exact_of Placing.metres Placing.checks_of Placing.place
+unfolding flat_map of_bits to_bits unsigned_at over first_refusal read_into Kitti.checks Kitti.points_as Savefile.format_of Savefile.checks ether_type ip_start version ihl flags_and_offset more_fragments fragment_offset is_fragment protocol udp_start destination_port udp_length held_from_udp bad_udp_length payload_start payload_len verdict opening places_from Payloads.payloads Payloads.place_of Savefile.file_checks number_given no_payload_check points_in tabulate gather round of_int add sub mul div lt le metres_of_two_millimetres degrees_by_division half_step_between turned vlp16_vert hdl32e_vert linear linear_elevations Packet.packet_points Velodyne.checks signed metres_of_millimetres Header.checks Livox.points Livox.point_bits Livox.frames Placing.pulses Placing.exact_of Placing.metres Placing.checks_of Placing.place
 tell (kitti by_value bytes numbers kinds) = reading (map_outcome (to_bits binary32) (Kitti.read_kitti bytes (map (of_bits binary32) numbers) kinds))
 tell (kitti by_pattern bytes numbers kinds) = reading (Kitti.read_kitti_bits bytes numbers kinds)
 tell (lvx by_value bytes numbers kinds) = reading (map_outcome (to_bits binary32) (Livox.read_livox Lvx bytes (map (of_bits binary32) numbers) kinds))

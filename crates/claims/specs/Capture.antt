@@ -25,17 +25,17 @@ unfolding dump
 file_a1_nanoseconds = dump 24 0xa1b23c4d_00020004_00000000_00000000_00040000_00000001
 
 -- A record header of this length, the least significant byte first.
-header : ℕ → List ℕ
+unfoldable pub header : ℕ → List ℕ
 unfolding dump
 header n = dump 8 0x01000000_02000000 ++ n ∷ 0 ∷ 0 ∷ 0 ∷ n ∷ 0 ∷ 0 ∷ 0 ∷ []
 
 -- Ethernet addresses, then an IPv4 header of IHL 5 and a UDP header for port 2368, both with true lengths: without a
 -- payload, and with the byte ab.
-addresses : List ℕ
+unfoldable pub addresses : List ℕ
 unfolding dump
 addresses = dump 12 0xffffffffffff_60768801c901
 
-tag : List ℕ
+unfoldable pub tag : List ℕ
 tag = 0x81 ∷ 0x00 ∷ 0x00 ∷ 0x05 ∷ []
 
 nothing : List ℕ

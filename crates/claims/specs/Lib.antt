@@ -4,6 +4,7 @@ pub mod Capture
 pub mod Cases
 pub mod Kitti
 pub mod Livox
+pub mod Padding
 pub mod Placing
 pub mod Row
 pub mod Time
