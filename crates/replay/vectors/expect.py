@@ -1,9 +1,9 @@
 #!/usr/bin/env python3
 """Writes ../stdout, ../args and differences.txt: what replay is to print of the captures of ../data, from what tshark says of them.
 
-tshark's answer for a frame is the payload of its UDP datagram, as far as the UDP length says. The paper's readings differ from it by rules of their own,
-each with a name here. A frame whose answer changes by a rule is listed in differences.txt; a frame whose answers differ by no rule is an error.
-The time is tshark's, and the unit is the precision that capinfos tells. No rule changes them.
+tshark's answer for a frame is the payload of its UDP datagram, as far as the UDP length says. The papers' readings differ from it by rules of their own,
+each with a name here. A frame whose answer changes by a rule is listed under it in differences.txt, with its reading. A frame whose answers differ by no rule
+is an error, and so is a rule that no frame shows. The time is tshark's, and the unit is the precision that capinfos tells. No rule changes them.
 """
 import itertools
 import os
@@ -18,6 +18,29 @@ DATA = os.path.join(HERE, "..", "data")
 LITTLE = ("d4c3b2a1", "4d3cb2a1")
 BIG = ("a1b2c3d4", "a1b23c4d")
 
+# The rules by which an answer may differ from tshark's. In both readings, of a file:
+MAGIC = "the magic is one of four"
+VERSION = "the version is not looked at"
+HEADER = "neither the version nor the link type is looked at"
+SNAP_LENGTH = "the snap length is not looked at"
+# In both readings, of a frame:
+ONE_TAG = "one tag, of type 0x8100"
+IPV4 = "IPv4 alone"
+UDP_IN_IPV4 = "UDP directly in IPv4"
+# In the savefile reading:
+FIRST_FRAGMENT = "every fragment is passed over, the first one too"
+CUT = "the UDP length is more than the record holds, since the capture cut it: passed over"
+BEYOND = "the UDP length is more than the record holds, and than was sent: passed over"
+IP_LENGTH = "the IP length is not looked at: the UDP length ends the payload"
+# In the Rust's reading:
+EVERY_IHL = "every IHL is taken"
+FRAGMENTS = "fragments are not looked at"
+BELOW_8 = "the UDP length is not looked at: below 8"
+PAST_IP = "the payload runs to the record's end: past the IP length"
+PAST_UDP = "the payload runs to the record's end: past the UDP length"
+
+RULES = (MAGIC, VERSION, HEADER, SNAP_LENGTH, ONE_TAG, IPV4, UDP_IN_IPV4, FIRST_FRAGMENT, CUT, BEYOND, IP_LENGTH, EVERY_IHL, FRAGMENTS, BELOW_8, PAST_IP, PAST_UDP)
+
 # What capinfos calls a file's precision: the unit's word here, and its nanoseconds.
 UNITS = {"microseconds (6)": ("us", 1000), "nanoseconds (9)": ("ns", 1)}
 
@@ -30,6 +53,7 @@ class Frame:
         self.names = [p.get("name") for p in self.layers]
         self.number = int(packet.find("proto/field[@name='num']").get("show"))
         self.length = int(packet.find("proto/field[@name='caplen']").get("show"))
+        self.sent = int(packet.find("proto/field[@name='len']").get("show"))
         self.epoch = packet.find("proto/field[@name='frame.time_epoch']").get("show")
 
     def field(self, layer, name):
@@ -47,6 +71,29 @@ class Frame:
         if payload is None:
             return b""
         return bytes.fromhex(payload.get("value"))[:max(0, self.number_in(at, "udp.length") - 8)]
+
+
+class Datagram:
+    """The UDP datagram after an IPv4 header, the given layer, by tshark's fields. tshark goes no further where the IHL or the IP length leaves no room, and
+    after an offset: from there on by the record's bytes."""
+
+    def __init__(self, frame, ip, data):
+        def stored(at, width):
+            return int.from_bytes(data[at:at + width], "big")
+
+        def number(layer, name, otherwise):
+            told = layer < len(frame.layers) and frame.field(layer, name) is not None
+            return frame.number_in(layer, name) if told else otherwise
+
+        place = int(frame.layers[ip].get("pos"))
+        self.words = frame.number_in(ip, "ip.hdr_len") // 4
+        self.start = place + 4 * self.words + 8
+        self.ip_end = place + number(ip, "ip.len", stored(place + 2, 2))
+        self.more = number(ip, "ip.flags.mf", stored(place + 6, 2) // 0x2000 % 2)
+        self.offset = number(ip, "ip.frag_offset", stored(place + 6, 2) % 0x2000)
+        self.protocol = number(ip, "ip.proto", stored(place + 9, 1))
+        self.length = number(ip + 1, "udp.length", stored(self.start - 4, 2))
+        self.end = self.start - 8 + self.length
 
 
 def frames_of(path):
@@ -75,39 +122,57 @@ def time_in(unit, epoch):
 
 
 def judged(frame, data, reading):
-    """The payload's start in the frame and the payload, or none, and the rule by which that is not tshark's answer, if it is not."""
+    """The payload's start in the frame and the payload, or none, and the rule by which that is not tshark's answer, if it is not. A rule leaves out what tshark
+    tells, or adds to it."""
     own = frame.own()
+    start, told, rule = answer(frame, data, reading)
+    if told == own:
+        rule = None
+    elif rule is None or told and not told.startswith(own):
+        sys.exit(f"frame {frame.number}, {reading}: no rule explains {told.hex()} for {own.hex()}")
+    return (start, told) if told else None, rule
+
+
+def answer(frame, data, reading):
+    """The payload's start in the frame, the payload, b"" where there is none, and the rule by which it may differ from tshark's. Without one, it may not."""
     tags = list(itertools.takewhile(lambda name: name in ("vlan", "ieee8021ad"), frame.names[1:]))
     ip = 1 + len(tags)
     if tags not in ([], ["vlan"]):
-        return None, "one tag, of type 0x8100" if own else None
+        return 0, b"", ONE_TAG
     if frame.names[ip:ip + 1] != ["ip"] or frame.number_in(ip, "ip.version") != 4:
-        return None, "IPv4 alone" if own else None
-    place = int(frame.layers[ip].get("pos"))
-    words = frame.number_in(ip, "ip.hdr_len") // 4
-    # tshark tells no protocol where the IHL is wrong.
-    protocol = data[place + 9] if words < 5 else frame.number_in(ip, "ip.proto")
-    if protocol != 17:
-        return None, "UDP directly in IPv4" if own else None
-    if frame.length < 42 or words < 5 and reading == "savefile":
-        return None, "an IHL below 5 is passed over" if own else None
-    start = place + 4 * words + 8
-    told = data[start:]
-    if told == own:
-        return (start, told) if told else None, None
-    if words < 5:
-        rule = "every IHL is taken"
-    elif frame.number_in(ip, "ip.frag_offset") > 0:
-        rule = "fragments are not looked at"
-    elif frame.number_in(ip + 1, "udp.length") < 8:
-        rule = "the UDP length is not looked at: below 8"
-    elif told[:len(own)] == own and place + frame.number_in(ip, "ip.len") < frame.length:
-        rule = "the payload runs to the record's end: past the IP length"
-    elif told[:len(own)] == own:
-        rule = "the payload runs to the record's end: past the UDP length"
-    else:
-        sys.exit(f"frame {frame.number}: no rule explains {told.hex()} for {own.hex()}")
-    return (start, told) if told else None, rule
+        return 0, b"", IPV4
+    datagram = Datagram(frame, ip, data)
+    if datagram.protocol != 17:
+        return 0, b"", UDP_IN_IPV4
+    if frame.length < 42 or frame.length < datagram.start:
+        return 0, b"", None
+    told, rule = savefile(datagram, frame, data) if reading == "savefile" else rust(datagram, frame, data)
+    return datagram.start, told, rule
+
+
+def savefile(datagram, frame, data):
+    if datagram.words < 5 or datagram.offset > 0:
+        return b"", None
+    if datagram.more:
+        return b"", FIRST_FRAGMENT
+    if datagram.length < 9:
+        return b"", None
+    if datagram.end > frame.length:
+        return b"", CUT if datagram.end <= frame.sent else BEYOND
+    return data[datagram.start:datagram.end], IP_LENGTH if datagram.ip_end < datagram.end else None
+
+
+def rust(datagram, frame, data):
+    told = data[datagram.start:]
+    if datagram.words < 5:
+        return told, EVERY_IHL
+    if datagram.offset > 0:
+        return told, FRAGMENTS
+    if datagram.length < 8:
+        return told, BELOW_8
+    if datagram.ip_end < frame.length:
+        return told, PAST_IP
+    return told, PAST_UDP if datagram.end < frame.length else None
 
 
 def as_read(data, reading):
@@ -158,7 +223,7 @@ def tell(payload):
 
 
 def main():
-    lines, differences = [], []
+    lines, differences = [], {rule: [] for rule in RULES}
     names = sorted(os.listdir(DATA))
     for name in names:
         path = os.path.join(DATA, name)
@@ -167,28 +232,35 @@ def main():
         own = [(frame.number, frame.epoch, frame.own()) for frame in frames_of(path)]
         if refusal(data):
             lines.append(f"{name} refused {refusal(data)}")
-            differences.append(f"{name}: the magic is none of the four: tshark {sum(1 for _, _, p in own if p)} payloads, here refused {refusal(data)}")
+            differences[MAGIC].append(f"{name}: tshark {sum(1 for _, _, p in own if p)} payloads, here refused {refusal(data)}")
             continue
-        savefile = list(payloads(data, "savefile"))
-        rust = list(payloads(data, "rust"))
-        found = [f for _, f, _ in savefile if f]
+        as_savefile = list(payloads(data, "savefile"))
+        as_rust = list(payloads(data, "rust"))
+        found = [f for _, f, _ in as_savefile if f]
         on_port = sum(1 for _, _, port, _ in found if port == 2368)
-        lines.append(f"{name} payloads {len(found)} on 2368 {on_port} rust {sum(1 for _, f, _ in rust if f)}")
+        lines.append(f"{name} payloads {len(found)} on 2368 {on_port} rust {sum(1 for _, f, _ in as_rust if f)}")
         for rank, (start, told, _, time) in enumerate(found):
             lines.append(f"{name} {rank} {start} {len(told)} {time} {told.hex()}")
         lines.append(f"{name} {len(found)} none")
         if libpcap_refuses(path):
-            differences.append(f"{name}: the version is not looked at: {libpcap_refuses(path)}, here {len(found)} payloads")
-        for frame, f, _ in savefile:
+            differences[VERSION].append(f"{name}: {libpcap_refuses(path)}, here {len(found)} payloads")
+        for frame, _, _ in as_savefile:
             if frame.length > snap_length(data):
-                differences.append(f"{name} {frame.number}: the snap length is not looked at: libpcap cuts the record to {snap_length(data)} bytes, here {frame.length}")
-        if own != [(frame.number, frame.epoch, frame.own()) for frame, _, _ in savefile]:
+                differences[SNAP_LENGTH].append(f"{name} {frame.number}: libpcap cuts the record to {snap_length(data)} bytes, here {frame.length}")
+        if own != [(frame.number, frame.epoch, frame.own()) for frame, _, _ in as_savefile]:
             told = [p for _, _, p in own if p]
-            differences.append(f"{name}: neither the version nor the link type is looked at: tshark {[p.hex() for p in told]}, here {[t.hex() for _, t, _, _ in found]}")
-        else:
-            differences += [f"{name} {frame.number}: {rule}: tshark {tell(frame.own())}, here {tell(f and f[1])}" for frame, f, rule in savefile if rule]
-        differences += [f"{name} {frame.number}: {rule}: tshark {tell(frame.own())}, the Rust's reading {tell(f and f[1])}" for frame, f, rule in rust if rule and rule.startswith("every IHL")]
-    for file, text in ((os.path.join(HERE, "..", "stdout"), lines), (os.path.join(HERE, "..", "args"), names), (os.path.join(HERE, "differences.txt"), differences)):
+            differences[HEADER].append(f"{name}: tshark {[p.hex() for p in told]}, here {[t.hex() for _, t, _, _ in found]}")
+            continue
+        for reading, judgements in (("savefile", as_savefile), ("Rust", as_rust)):
+            for frame, f, rule in judgements:
+                if rule:
+                    differences[rule].append(f"{name} {frame.number}, {reading}: tshark {tell(frame.own())}, here {tell(f and f[1])}")
+    shown = []
+    for rule, frames in differences.items():
+        if not frames:
+            sys.exit(f"no frame shows the rule: {rule}")
+        shown += [rule] + ["    " + frame for frame in frames]
+    for file, text in ((os.path.join(HERE, "..", "stdout"), lines), (os.path.join(HERE, "..", "args"), names), (os.path.join(HERE, "differences.txt"), shown)):
         with open(file, "w") as f:
             f.write("".join(line + "\n" for line in text))
 

@@ -7,6 +7,9 @@ For the big-endian files TCPDUMP_BIG_ENDIAN names a tcpdump of a big-endian mach
     TCPDUMP_BIG_ENDIAN='qemu-s390x-static -L ROOT ROOT/usr/bin/tcpdump' python3 make.py
 
 It needs the right to catch frames on lo. A second run gives other times, and other IP identifications and checksums in the live files.
+`udp_lengths`, `fragment_fields` and `raw_ip_length` can be written alone, and are the same again:
+
+    python3 -c 'import make; make.udp_lengths(); make.fragment_fields(); make.raw_ip_length(); make.turned("udp_lengths")'
 """
 import os
 import shlex
@@ -110,6 +113,87 @@ def read(name):
         return f.read()
 
 
+def padded(frame):
+    """As a switch sends it: at least 60 bytes."""
+    return frame + bytes(60 - len(frame))
+
+
+def turned(name):
+    """Each field of the file header reversed, and the records as they were: the Rust's reading takes the lengths as their writer meant them."""
+    data = read(f"{name}.pcap")
+    fields = [(0, 4), (4, 6), (6, 8), (8, 12), (12, 16), (16, 20), (20, 24)]
+    write(f"{name}_turned.pcap", b"".join(data[a:b][::-1] for a, b in fields) + data[24:])
+
+
+def udp_lengths():
+    """UDP lengths below 9, of less than the datagram, true, and of more; the UDP header at the record's end. Padding, tagged and after IP options too. UDP
+    lengths that take padding in, up to the record's end and past it. IP lengths that are wrong, before a true UDP length. IHL 4 and 0, which are wrong, with a
+    true UDP length where they put the UDP header."""
+    word = bytes([1, 1, 1, 0])
+    tag = [(0x8100, 5)]
+    no_words = ip(udp(b"IHL 0"), words=0)
+    text2pcap("udp_lengths.pcap", [
+        ethernet(ip(udp(b"UDP length 0", length=0))),
+        ethernet(ip(udp(b"UDP length 7", length=7))),
+        ethernet(ip(udp(b"UDP length 8", length=8))),
+        ethernet(ip(udp(b"UDP length 9", length=9))),
+        ethernet(ip(udp(b"one byte less", length=20))),
+        ethernet(ip(udp(b"true"))),
+        ethernet(ip(udp(b"one byte more", length=22))),
+        ethernet(ip(udp(b"UDP length 65,535", length=65535))),
+        ethernet(ip(udp(b"", length=9))),
+        padded(ethernet(ip(udp(b"abc")))),
+        padded(ethernet(ip(udp(b"tagged")), tags=tag)),
+        ethernet(ip(udp(b"tagged, one byte more", length=30)), tags=tag),
+        padded(ethernet(ip(udp(b"IHL 6"), options=word))),
+        ethernet(ip(udp(b"IHL 6, one byte more", length=29), options=word)),
+        padded(ethernet(ip(udp(b"a", length=12)))),
+        padded(ethernet(ip(udp(b"a", length=26)))),
+        padded(ethernet(ip(udp(b"a", length=27)))),
+        ethernet(ip(udp(b"IP length 28"), total=28)),
+        ethernet(ip(udp(b"IP length 20"), total=20)),
+        ethernet(ip(udp(b"IP length 19"), total=19)),
+        padded(ethernet(ip(udp(b"IP length 0"), total=0))),
+        padded(ethernet(ip(udp(b"IP length 65,535"), total=65535))),
+        ethernet(ip(b"", words=4, total=29)[:16] + udp(b"IHL 4")),
+        ethernet(no_words[:4] + struct.pack(">H", len(no_words)) + no_words[6:]),
+        ethernet(ip(udp(b"last"))),
+    ])
+
+
+def fragment_fields():
+    """Whole datagrams with each fragment field: offsets from 1 to 8,191, more-fragments, and the bits that make no fragment, don't-fragment and the reserved
+    one. Tagged, after IP options, with an IHL of 4 and with wrong UDP lengths too."""
+    word = bytes([1, 1, 1, 0])
+    tag = [(0x8100, 5)]
+    text2pcap("fragment_fields.pcap", [
+        ethernet(ip(udp(b"offset 1"), fragment=0x0001)),
+        ethernet(ip(udp(b"offset 256"), fragment=0x0100)),
+        ethernet(ip(udp(b"offset 4,096"), fragment=0x1000)),
+        ethernet(ip(udp(b"offset 8,191"), fragment=0x1FFF)),
+        ethernet(ip(udp(b"more-fragments"), fragment=0x2000)),
+        ethernet(ip(udp(b"more-fragments, offset 1"), fragment=0x2001)),
+        ethernet(ip(udp(b"don't-fragment"), fragment=0x4000)),
+        ethernet(ip(udp(b"don't-fragment and more-fragments"), fragment=0x6000)),
+        ethernet(ip(udp(b"reserved"), fragment=0x8000)),
+        ethernet(ip(udp(b"reserved and don't-fragment"), fragment=0xC000)),
+        ethernet(ip(udp(b"tagged, more-fragments"), fragment=0x2000), tags=tag),
+        ethernet(ip(udp(b"tagged, offset 1"), fragment=0x0001), tags=tag),
+        ethernet(ip(udp(b"tagged, don't-fragment"), fragment=0x4000), tags=tag),
+        ethernet(ip(udp(b"IHL 6, more-fragments"), fragment=0x2000, options=word)),
+        ethernet(ip(b"", fragment=0x2000, words=4, total=45)[:16] + udp(b"IHL 4, more-fragments")),
+        ethernet(ip(udp(b"more-fragments, UDP length 0", length=0), fragment=0x2000)),
+        ethernet(ip(udp(b"more-fragments, UDP length 99", length=99), fragment=0x2000)),
+        ethernet(ip(udp(b"no fragment"))),
+    ])
+
+
+def raw_ip_length():
+    """IP without Ethernet, in which an Ethernet reader finds IPv4, an IHL of 5, don't-fragment, protocol 17 and a true UDP length."""
+    raw = ip(udp(b"no Etherne\x00\x12here", port=0x0911))
+    text2pcap("raw_ip_length.pcap", [raw[:12] + bytes([8, 0, 0x45, 0]) + raw[16:20] + bytes([0x40, 0]) + raw[22:] + bytes(8)], "-l", "101")
+
+
 def main():
     os.makedirs(DATA, exist_ok=True)
     big_endian = shlex.split(os.environ["TCPDUMP_BIG_ENDIAN"])
@@ -192,6 +276,10 @@ def main():
         ethernet(ip(udp(b"whole"))),
     ])
 
+    # The UDP length and the fragment fields at each boundary.
+    udp_lengths()
+    fragment_fields()
+
     # Records cut short by a snap length: inside a payload, after the UDP header, inside it. Files that end inside a record, and inside a record's header.
     for snap in (47, 42, 40):
         run("editcap", "-F", "pcap", "-s", str(snap), path("live.pcap"), path(f"snap_{snap}.pcap"))
@@ -207,6 +295,7 @@ def main():
     # IP without Ethernet. The second is such that an Ethernet reader finds an EtherType of 0x0800, an IHL of 5 and protocol 17 in it.
     raw = ip(udp(b"no Ethernet here", port=0x0911))
     text2pcap("raw_ip.pcap", [raw, raw[:12] + bytes([8, 0, 0x45, 0]) + raw[16:] + bytes(8)], "-l", "101")
+    raw_ip_length()
 
     # Other formats of the same family.
     run("editcap", "-F", "modpcap", path("tags.pcap"), path("modified.pcap"))
@@ -223,11 +312,10 @@ def main():
     long = bytearray(read("padded.pcap"))
     long[16:20] = (44).to_bytes(4, "little")
     write("snap_header.pcap", bytes(long))
-    # Each field of the file header reversed, and the records as they were: the Rust's reading takes the lengths as their writer meant them.
-    for name in ("live", "headers", "live_be_ns"):
-        data = read(f"{name}.pcap")
-        fields = [(0, 4), (4, 6), (6, 8), (8, 12), (12, 16), (16, 20), (20, 24)]
-        write(f"{name}_turned.pcap", b"".join(data[a:b][::-1] for a, b in fields) + data[24:])
+    # What the Rust's reading has of the same records.
+    for name in ("live", "live_be_ns", "headers", "padded", "lengths", "udp_lengths", "fragments", "fragment_fields", "snap_47"):
+        turned(name)
 
 
-main()
+if __name__ == "__main__":
+    main()
