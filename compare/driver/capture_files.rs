@@ -27,12 +27,23 @@ const PORTS: [u16; 7] = [2368, 7502, 0x4009, 0, 1, 256, 65535];
 /// No time, the last fraction below a second and the first of a second, in either unit, and all bits.
 const TIMES: [u32; 6] = [0, 999_999, 1_000_000, 999_999_999, 1_000_000_000, u32::MAX];
 
+/// Flags and fragment offsets of an IP header. Fragments by one byte of the offset or by the other, by all of
+/// it, by more-fragments, and by both; then don't-fragment, the reserved flag and both, which make none.
+const FRAGMENTS: [u16; 9] = [
+    0x0001, 0x00ff, 0x0100, 0x1fff, 0x2000, 0x3fff, 0x4000, 0x8000, 0xc000,
+];
+
 const FILE_HEADER: usize = 24;
 
 /// The first files are the same capture, cut at every length up to this.
 const CUTS: u64 = 130;
 /// The next have a record of every length up to this, with each IHL and number of tags.
 const RECORD_LENGTHS: usize = 100;
+/// The next have every UDP length up to the record's and beyond, in records that hold so many bytes from the
+/// UDP header on; the last of these files have every bit of the fragment field instead. Each with these IHLs,
+/// and with and without a tag.
+const HELD: [usize; 4] = [8, 9, 10, 26];
+const IHLS: [u8; 3] = [5, 6, 15];
 
 pub struct Capture {
     pub data: Vec<u8>,
@@ -72,11 +83,14 @@ fn in_order(number: u32, big_endian: bool) -> [u8; 4] {
 pub fn file(random: &mut Random, case: u64, reading: Reading) -> Capture {
     let magics = MAGICS.len() as u64;
     let of_cuts = CUTS * (magics + 1);
-    let of_lengths = 16 * 3 * magics;
+    let of_lengths = of_cuts + 16 * 3 * magics;
+    let of_datagrams = of_lengths + (HELD.len() + 1) as u64 * IHLS.len() as u64 * 2 * magics;
     if case < of_cuts {
         cut(random, case, reading)
-    } else if case < of_cuts + of_lengths {
+    } else if case < of_lengths {
         every_length(random, case - of_cuts, reading)
+    } else if case < of_datagrams {
+        every_datagram(random, case - of_lengths, reading)
     } else {
         any(random, reading)
     }
@@ -101,10 +115,44 @@ fn every_length(random: &mut Random, case: u64, reading: Reading) -> Capture {
     let mut maker = Maker::new(random, MAGICS[magic as usize], reading);
     for length in 0..=RECORD_LENGTHS {
         let mut frame = Frame::usual(length, [2368, 7502][length % 2]);
-        frame.types = [&vec![0x8100; tags as usize][..], &[0x0800]].concat();
+        frame.types = tagged(tags);
         frame.ihl = ihl as u8;
         let bytes = frame.bytes(random);
         maker.record(random, length as u32, &bytes);
+    }
+    maker.capture(vec![0, 2368, 7502])
+}
+
+/// The EtherTypes of IPv4 behind so many tags.
+fn tagged(tags: u64) -> Vec<u16> {
+    [&vec![0x8100; tags as usize][..], &[0x0800]].concat()
+}
+
+/// A record for each UDP length, or for each bit of the fragment field.
+fn every_datagram(random: &mut Random, case: u64, reading: Reading) -> Capture {
+    let (magic, tags, ihl, held) = (case % 4, case / 4 % 2, case / 8 % 3, case / 24);
+    let mut maker = Maker::new(random, MAGICS[magic as usize], reading);
+    let mut record = |held: usize, fragment: u16, udp_length: usize| {
+        let mut frame = Frame::usual(0, 2368);
+        frame.types = tagged(tags);
+        frame.ihl = IHLS[ihl as usize];
+        frame.fragment = fragment;
+        frame.length = frame.udp() + held;
+        frame.udp_length = Some(udp_length);
+        let bytes = frame.bytes(random);
+        maker.record(random, frame.length as u32, &bytes);
+    };
+    if let Some(&held) = HELD.get(held as usize) {
+        // Up to those that are counted from the record's start. Then lengths that are good by one byte alone
+        // or with their bytes turned, and the most.
+        let others = [256, 256 + held, 256 * 9, 256 * held, 65_535];
+        for udp_length in (0..=held + 80).chain(others) {
+            record(held, 0, udp_length);
+        }
+    } else {
+        for fragment in (0..16).map(|bit| 1 << bit).chain(FRAGMENTS) {
+            record(26, fragment, 11);
+        }
     }
     maker.capture(vec![0, 2368, 7502])
 }
@@ -134,9 +182,19 @@ fn any(random: &mut Random, reading: Reading) -> Capture {
     };
     // A file is well-formed, or some of its records have a wrong length.
     let wrong_lengths = random.pick(&[0, 0, 4]);
+    // A generator apart, so that a seed still makes the same lines of other files for `crates/cases`.
+    let mut apart = random.apart();
+    let other_datagrams = apart.pick(&[0, 0, 4]);
     for _ in 0..records {
         let port = random.pick(&ports);
-        let bytes = Frame::any(random, port).bytes(random);
+        let mut frame = Frame::any(random, port);
+        // At least a byte of the payload stays.
+        let padding = match apart.below(4) {
+            0 => apart.below(frame.held().max(9) - 8),
+            _ => 0,
+        };
+        frame.state_datagram(&mut apart, padding, other_datagrams);
+        let bytes = frame.bytes(random);
         let stated = if random.below(16) < wrong_lengths {
             maker.wrong_length(random, bytes.len())
         } else {
@@ -172,6 +230,8 @@ pub fn of_packets(
     let mut maker = Maker::new(random, magic, reading);
     let records = random.pick(&[0, 1, 1, 1, 1, 2, 2, 3]);
     let wrong_lengths = random.pick(&[0, 0, 0, 2]);
+    let mut apart = random.apart();
+    let other_datagrams = apart.pick(&[0, 0, 4]);
     for _ in 0..records {
         let to = match random.below(10) {
             0 => random.pick(&PORTS),
@@ -181,8 +241,11 @@ pub fn of_packets(
             0 => Frame::any(random, to),
             _ => Frame::usual(0, to),
         };
-        let payload = packet(random);
+        let mut payload = packet(random);
+        let padding = apart.pick(&[0, 0, 0, 1, 4, 46]);
+        payload.resize(payload.len() + padding, 0);
         frame.length = frame.payload() + payload.len();
+        frame.state_datagram(&mut apart, padding, other_datagrams);
         let bytes = frame.bytes_around(random, &payload);
         let stated = if random.below(16) < wrong_lengths {
             maker.wrong_length(random, bytes.len())
@@ -273,8 +336,12 @@ struct Frame {
     types: Vec<u16>,
     version: u8,
     ihl: u8,
+    /// The flags and the fragment offset.
+    fragment: u16,
     protocol: u8,
     port: u16,
+    /// Without one, the true length of a datagram that runs to the record's end.
+    udp_length: Option<usize>,
     length: usize,
     damaged: bool,
 }
@@ -285,8 +352,10 @@ impl Frame {
             types: vec![0x0800],
             version: 4,
             ihl: 5,
+            fragment: 0,
             protocol: 17,
             port,
+            udp_length: None,
             length,
             damaged: false,
         }
@@ -324,9 +393,42 @@ impl Frame {
         frame
     }
 
+    /// States that it is no fragment, and the true length of a datagram that padding follows; of sixteen
+    /// frames, so many have another fragment field or another length.
+    fn state_datagram(&mut self, random: &mut Random, padding: usize, others: usize) {
+        let (held, record) = (self.held(), self.length);
+        self.udp_length = Some(held - padding);
+        if random.below(16) < others {
+            let any = random.next() as u16;
+            if random.below(2) == 0 {
+                let some = random.pick(&FRAGMENTS);
+                self.fragment = random.pick(&[some, some, some, any]);
+            } else {
+                let edges = [0, 8, 9, held.max(1) - 1, held, held + 1, record, 65_535];
+                let some = random.pick(&edges);
+                self.udp_length = Some(random.pick(&[some, some, some, any.into()]));
+            }
+        }
+    }
+
+    /// Where the IP header starts.
+    fn ip(&self) -> usize {
+        12 + 4 * self.types.len() - 2
+    }
+
+    /// Where the UDP header starts.
+    fn udp(&self) -> usize {
+        self.ip() + 4 * usize::from(self.ihl)
+    }
+
     /// Where the payload starts.
     fn payload(&self) -> usize {
-        12 + 4 * self.types.len() - 2 + 4 * usize::from(self.ihl) + 8
+        self.udp() + 8
+    }
+
+    /// How much the frame holds from the UDP header on.
+    fn held(&self) -> usize {
+        self.length.saturating_sub(self.udp())
     }
 
     fn bytes(&self, random: &mut Random) -> Vec<u8> {
@@ -342,18 +444,22 @@ impl Frame {
         for (i, ether_type) in self.types.iter().enumerate() {
             bytes[12 + 4 * i..][..2].copy_from_slice(&ether_type.to_be_bytes());
         }
-        // With a short IHL the UDP header lies in the IP header, and its port on none of these bytes.
-        let ip = 12 + 4 * self.types.len() - 2;
-        let udp = self.payload() - 8;
+        let (ip, udp) = (self.ip(), self.udp());
+        bytes[ip + 6..ip + 8].copy_from_slice(&self.fragment.to_be_bytes());
+        // The longest, where the record holds more.
+        let length = self.udp_length.unwrap_or(self.held()).min(65_535) as u16;
+        bytes[udp + 4..udp + 6].copy_from_slice(&length.to_be_bytes());
+        // With a short IHL the UDP header lies in the IP header, and what follows is written over these: with
+        // an IHL of 1 the port is the fragment field, and the protocol stands in the length.
         if ip + 10 <= bytes.len() {
             bytes[ip + 9] = self.protocol;
         }
         bytes[ip] = self.version << 4 | self.ihl;
         bytes[udp + 2..udp + 4].copy_from_slice(&self.port.to_be_bytes());
-        // A true or a short length, which nobody looks at.
         if self.ihl >= 5 {
-            let length = random.below(bytes.len() - udp + 1) as u16;
-            bytes[udp + 4..udp + 6].copy_from_slice(&length.to_be_bytes());
+            // A true or a short total length, which nobody looks at.
+            let total = random.below(bytes.len() - ip + 1) as u16;
+            bytes[ip + 2..ip + 4].copy_from_slice(&total.to_be_bytes());
         }
         bytes.truncate(self.length);
         if self.damaged {

@@ -122,11 +122,11 @@ pub fn told(payload: Option<&Payload>) -> Told {
     })
 }
 
-/// The step from a place to a payload, which runs to its record's end. Without one, the place stays.
+/// The step from a place to a payload, which leads to the end of its record. Without one, the place stays.
 fn stepped(at: usize, payload: Option<&Payload>) -> Stepped {
     Stepped {
         found: payload.is_some(),
-        at: payload.map_or(at, |payload| payload.place.end),
+        at: payload.map_or(at, |payload| payload.record_end),
         told: told(payload),
     }
 }
@@ -218,44 +218,63 @@ impl Call<'_> {
     }
 }
 
-/// One record as long as the data allows, around refusal 1. The original has no such limit.
+/// One record as long as the data allows, around refusal 1, which the original does not have, and records
+/// around the longest datagram.
 fn long_data(reading: Reading) -> Result<(), String> {
+    const UDP: usize = 40 + 14 + 20;
     let data = untouched(TOO_LONG + 1)?;
     let most_first = [0xa1, 0xb2, 0x3c, 0x4d];
-    let length = (TOO_LONG - 1 - 40) as u32;
-    let (savefile, stated, seconds, fraction) = match reading {
-        Reading::Rust => (Some(false), length.to_le_bytes(), 0x6745_2301, 0xdebc_0a00),
-        Reading::Savefile => (Some(true), length.to_be_bytes(), 0x0123_4567, 0x000a_bcde),
-    };
-    let longest = Payload {
-        place: 82..TOO_LONG - 1,
-        seconds,
-        fraction,
-        nanoseconds: true,
+    let (savefile, in_order, seconds, fraction): (_, fn(u32) -> [u8; 4], _, _) = match reading {
+        Reading::Rust => (false, u32::to_le_bytes, 0x6745_2301, 0xdebc_0a00),
+        Reading::Savefile => (true, u32::to_be_bytes, 0x0123_4567, 0x000a_bcde),
     };
     data[..4].copy_from_slice(&most_first);
     data[24..32].copy_from_slice(&[0x01, 0x23, 0x45, 0x67, 0x00, 0x0a, 0xbc, 0xde]);
-    data[32..36].copy_from_slice(&stated);
     data[40 + 12..40 + 14].copy_from_slice(&[0x08, 0x00]);
     data[40 + 14] = 0x45;
     data[40 + 23] = 17;
-    for (length, number, payloads) in [
-        (TOO_LONG - 2, 0, vec![]),
-        (TOO_LONG - 1, 0, vec![longest]),
-        (TOO_LONG, 1, vec![]),
-        (TOO_LONG + 1, 1, vec![]),
+    // What the record holds from the UDP header on, the UDP length, and how long the payload then is in the
+    // savefile reading. The Rust's has it run to the record's end.
+    let most = TOO_LONG - 1 - UDP;
+    for (held, udp_length, len) in [
+        (most, 0, None),
+        (most, 8, None),
+        (most, 9, Some(1)),
+        (most, u16::MAX, Some(65_527)),
+        (65_534, u16::MAX, None),
+        (65_535, u16::MAX, Some(65_527)),
+        (65_536, u16::MAX, Some(65_527)),
     ] {
-        let call = Call {
-            data: &data[..length],
-            reading,
-            savefile,
-            port: 0,
+        let end = UDP + held;
+        data[32..36].copy_from_slice(&in_order((end - 40) as u32));
+        data[UDP + 4..UDP + 6].copy_from_slice(&udp_length.to_be_bytes());
+        let len = match reading {
+            Reading::Rust => Some(held - 8),
+            Reading::Savefile => len,
         };
-        let expected = Expected { number, payloads };
-        let mut random = Random::of_case(0, 0);
-        call.hold_ranks(&expected, &mut random)
-            .and_then(|()| call.hold_steps(&expected, &mut random))
-            .map_err(|what| format!("{length} bytes: {what}"))?;
+        for (length, number) in [(end - 1, 0), (end, 0), (TOO_LONG, 1), (TOO_LONG + 1, 1)] {
+            let call = Call {
+                data: &data[..length],
+                reading,
+                savefile: Some(savefile),
+                port: 0,
+            };
+            let payload = len.filter(|_| length == end).map(|len| Payload {
+                place: UDP + 8..UDP + 8 + len,
+                record_end: end,
+                seconds,
+                fraction,
+                nanoseconds: true,
+            });
+            let expected = Expected {
+                number,
+                payloads: payload.into_iter().collect(),
+            };
+            let mut random = Random::of_case(0, 0);
+            call.hold_ranks(&expected, &mut random)
+                .and_then(|()| call.hold_steps(&expected, &mut random))
+                .map_err(|what| format!("{length} bytes, UDP length {udp_length}: {what}"))?;
+        }
     }
     Ok(())
 }

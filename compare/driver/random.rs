@@ -9,6 +9,11 @@ impl Random {
         Random(of_seed.next() ^ case.wrapping_mul(0xD1B5_4A32_D192_ED03))
     }
 
+    /// Another generator, which takes nothing from this one: what this one makes stays the same.
+    pub fn apart(&self) -> Self {
+        Random(!self.0)
+    }
+
     pub fn next(&mut self) -> u64 {
         self.0 = self.0.wrapping_add(0x9E37_79B9_7F4A_7C15);
         let mut z = self.0;

@@ -1,6 +1,7 @@
-//! The payloads of a capture by the words of 01-scope.md, and their times by those of
-//! 02-change-requests.md, written apart from the original and from ours. It stands in for an oracle where
-//! the original has none: the savefile reading, a walk that starts at any place, and every time.
+//! The payloads of a capture by the words of 01-scope.md, and by those of 02-change-requests.md their times,
+//! and their ends and the fragments in the savefile reading; written apart from the original and from ours.
+//! It stands in for an oracle where the original has none: the savefile reading, a walk that starts at any
+//! place, and every time.
 
 use crate::ours::OusterSettings;
 use std::ops::Range;
@@ -22,9 +23,11 @@ pub fn number(data: &[u8]) -> u8 {
     }
 }
 
-/// A payload, and the time that its record states.
+/// A payload, where its record ends, and the time that its record states.
 pub struct Payload {
     pub place: Range<usize>,
+    /// The walk goes on here. In the savefile reading padding may stand before it.
+    pub record_end: usize,
     pub seconds: u32,
     /// As stored, so it may be a second or more.
     pub fraction: u32,
@@ -52,9 +55,10 @@ pub fn payloads(data: &[u8], reading: Reading, port: u16, from: usize) -> Vec<Pa
         let Some(record) = data.get(start..end) else {
             break;
         };
-        if let Some(skipped) = payload_in(record, reading, port) {
+        if let Some(place) = payload_in(record, reading, port) {
             found.push(Payload {
-                place: start + skipped..end,
+                place: start + place.start..start + place.end,
+                record_end: end,
                 seconds: field(0),
                 fraction: field(4),
                 nanoseconds,
@@ -65,8 +69,8 @@ pub fn payloads(data: &[u8], reading: Reading, port: u16, from: usize) -> Vec<Pa
     found
 }
 
-/// How many bytes of a record come before its payload, if it has one.
-fn payload_in(record: &[u8], reading: Reading, port: u16) -> Option<usize> {
+/// Where the payload of a record stands in it, if it has one.
+fn payload_in(record: &[u8], reading: Reading, port: u16) -> Option<Range<usize>> {
     let u16_at = |at: usize| u16::from_be_bytes([record[at], record[at + 1]]);
     if record.len() < 42 {
         return None;
@@ -78,14 +82,30 @@ fn payload_in(record: &[u8], reading: Reading, port: u16) -> Option<usize> {
     };
     let (version, ihl) = (record[ip] >> 4, usize::from(record[ip] & 0x0f));
     let protocol = record[ip + 9];
+    if version != 4 || protocol != 17 {
+        return None;
+    }
+    if reading == Reading::Savefile && (ihl < 5 || is_fragment(u16_at(ip + 6))) {
+        return None;
+    }
     let udp = ip + 4 * ihl;
     let payload = udp + 8;
-    let taken = version == 4
-        && protocol == 17
-        && (reading == Reading::Rust || ihl >= 5)
-        && payload < record.len()
-        && (port == 0 || u16_at(udp + 2) == port);
-    taken.then_some(payload)
+    if payload > record.len() || port != 0 && u16_at(udp + 2) != port {
+        return None;
+    }
+    let end = match (reading, usize::from(u16_at(udp + 4))) {
+        (Reading::Rust, _) => record.len(),
+        (Reading::Savefile, 0..=8) => return None,
+        (Reading::Savefile, length) => udp + length,
+    };
+    (payload < end && end <= record.len()).then_some(payload..end)
+}
+
+/// By the three flags of an IPv4 header and its fragment offset, of 13 bits. The last flag says that more
+/// fragments follow; the reserved one and don't-fragment make no fragment.
+fn is_fragment(flags_and_offset: u16) -> bool {
+    let (flags, offset) = (flags_and_offset >> 13, flags_and_offset & 0x1fff);
+    flags & 0b001 != 0 || offset != 0
 }
 
 /// A copy of each payload.
