@@ -47,8 +47,9 @@ static void stopped(int signal)
 static void put_number(uint8_t *at, size_t room)
 {
     static const uint64_t numbers[] = {
-        0, 1, 2, 3, 4, 5, 10, 14, 16, 24, 27, 42, 43, 0x45, 0x7f, 0x80, 0xff, 1000, 1001, 1206, 2368, 7502,
-        0x7fff, 0x8000, 0xffee, 0xffff, 0x7fffffff, 0x80000000, 0xffffffff, -24ull, -8ull, -1ull,
+        0, 1, 2, 3, 4, 5, 8, 9, 10, 14, 16, 24, 27, 42, 43, 0x45, 0x7f, 0x80, 0xff, 1000, 1001, 1206, 2368,
+        7502, 0x2000, 0x4000, 0x7fff, 0x8000, 0xffee, 0xffff, 0x7fffffff, 0x80000000, 0xffffffff, -24ull,
+        -8ull, -1ull,
     };
     uint64_t number = numbers[random_below(sizeof numbers / sizeof *numbers)];
     size_t len = (size_t)1 << random_below(4);

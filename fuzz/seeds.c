@@ -202,6 +202,9 @@ static void put_u32(uint8_t *at, bool big_endian, uint32_t number)
     put(at, 4, big_endian ? __builtin_bswap32(number) : number);
 }
 
+/* As networks have it. */
+static void put_u16(uint8_t *at, unsigned number) { put(at, 2, __builtin_bswap16((uint16_t)number)); }
+
 /* Of a record's time, often where a second ends in either unit, or where the number does. */
 static uint32_t any_time(void)
 {
@@ -211,10 +214,21 @@ static uint32_t any_time(void)
     return any % 2 ? (uint32_t)(any >> 32) : edges[any / 2 % 6];
 }
 
-/* A record with one datagram to a port. Gives back where its payload stands. */
-static uint8_t *datagram(size_t *len, bool big_endian, bool tagged, unsigned port, size_t payload)
+/* A datagram, and what stands around it in its record. */
+struct datagram {
+    bool tagged;
+    unsigned options;   /* of the IP header, in words of four bytes */
+    unsigned fragment;  /* the flags and the fragment offset */
+    unsigned port;
+    size_t payload, padding;
+    int more;           /* what the UDP length tells beyond the true one */
+};
+
+/* A record with one datagram. Gives back where its payload stands. */
+static uint8_t *put_datagram(size_t *len, bool big_endian, struct datagram datagram)
 {
-    size_t ip = tagged ? 18 : 14, length = ip + 28 + payload;
+    size_t ip = datagram.tagged ? 18 : 14, udp = ip + 20 + 4 * datagram.options;
+    size_t length = udp + 8 + datagram.payload + datagram.padding;
     uint8_t *record = file + *len + 16;
 
     memset(record - 16, 0, 16 + length);
@@ -222,17 +236,16 @@ static uint8_t *datagram(size_t *len, bool big_endian, bool tagged, unsigned por
     put_u32(record - 12, big_endian, any_time());
     put_u32(record - 8, big_endian, (uint32_t)length);
     put_u32(record - 4, big_endian, (uint32_t)length);
-    if (tagged)
-        put(record + 12, 2, 0x0081);
-    put(record + ip - 2, 2, 0x0008);
-    record[ip] = 0x45;
+    if (datagram.tagged)
+        put_u16(record + 12, 0x8100);
+    put_u16(record + ip - 2, 0x0800);
+    record[ip] = (uint8_t)(0x45 + datagram.options);
+    put_u16(record + ip + 6, datagram.fragment);
     record[ip + 9] = 17;
-    record[ip + 22] = (uint8_t)(port >> 8);
-    record[ip + 23] = (uint8_t)port;
-    record[ip + 24] = (uint8_t)((payload + 8) >> 8);
-    record[ip + 25] = (uint8_t)(payload + 8);
+    put_u16(record + udp + 2, datagram.port);
+    put_u16(record + udp + 4, (unsigned)((int)datagram.payload + 8 + datagram.more));
     *len += 16 + length;
-    return record + ip + 28;
+    return record + udp + 8;
 }
 
 static void velodyne_packet(uint8_t *payload, uint8_t model)
@@ -249,8 +262,10 @@ static void velodyne_capture(unsigned way, bool big_endian, unsigned packets, ui
 {
     size_t len = capture(way);
 
-    for (unsigned i = 0; i < packets; i++)
-        velodyne_packet(datagram(&len, big_endian, i % 2, 2368, 1206), model);
+    for (unsigned i = 0; i < packets; i++) {
+        struct datagram datagram = {.tagged = i % 2, .port = 2368, .payload = 1206, .padding = 4 * (i % 3)};
+        velodyne_packet(put_datagram(&len, big_endian, datagram), model);
+    }
     write_seed(file, len, ask(2368, 1, 16));
 }
 
@@ -270,8 +285,10 @@ static void ouster_capture(unsigned way, bool big_endian, unsigned packets, unsi
 {
     size_t len = capture(way), size = columns * (20 + 12 * beams);
 
-    for (unsigned i = 0; i < packets; i++)
-        put_random(datagram(&len, big_endian, i % 2, 7502, size), size);
+    for (unsigned i = 0; i < packets; i++) {
+        struct datagram datagram = {.tagged = i % 2, .port = 7502, .payload = size, .padding = 4 * i};
+        put_random(put_datagram(&len, big_endian, datagram), size);
+    }
     write_seed(file, len, ask(7502, columns, beams));
 }
 
@@ -289,10 +306,46 @@ static void times(void)
     for (unsigned i = 0; i < 8; i++) {
         size_t len = capture(i);
         for (unsigned record = 0; record < 8; record++) {
-            size_t payload = record % 4;
-            put_random(datagram(&len, i / 4, record / 4, record % 3 ? 2368 : 7502, payload), payload);
+            struct datagram datagram = {
+                .tagged = record / 4,
+                .port = record % 3 ? 2368 : 7502,
+                .payload = record % 4,
+            };
+            put_random(put_datagram(&len, i / 4, datagram), datagram.payload);
         }
         write_seed(file, len, ask(7502, 1, 16));
+    }
+}
+
+/* Captures of three bytes and fifteen of padding, which each reading takes, each record with another UDP
+   length or another fragment field. The second half are tagged and have options. */
+static void padded(void)
+{
+    static const int lengths[9] = {11, 0, 8, 9, 25, 26, 27, 60, 65535};
+    static const unsigned fragments[8] = {0x4000, 0x8000, 0xc000, 0x2000, 0x0001, 0x0100, 0x00ff, 0x1fff};
+
+    for (unsigned i = 0; i < 16; i++) {
+        size_t len = capture(i);
+        struct datagram datagram = {.tagged = i / 8, .options = i / 8, .port = 2368};
+        datagram.payload = 3;
+        datagram.padding = 15;
+        for (unsigned record = 0; record < 9 + 8; record++) {
+            datagram.more = record < 9 ? lengths[record] - 11 : 0;
+            datagram.fragment = record < 9 ? 0 : fragments[record - 9];
+            put_random(put_datagram(&len, i / 4 % 2, datagram), 3);
+        }
+        write_seed(file, len, ask(2368, 1, 16));
+    }
+}
+
+/* Captures of one packet, which each reading takes, whose UDP length tells a byte less or a byte more. */
+static void wrong_lengths(void)
+{
+    for (unsigned i = 0; i < 16; i++) {
+        size_t len = capture(i);
+        struct datagram datagram = {.port = 2368, .payload = 1206, .more = i / 8 ? 1 : -1};
+        velodyne_packet(put_datagram(&len, i / 4 % 2, datagram), 0x22);
+        write_seed(file, len, ask(2368, 1, 16));
     }
 }
 
@@ -389,6 +442,8 @@ int main(int argc, char **argv)
     velodyne();
     ouster();
     times();
+    padded();
+    wrong_lengths();
     kitti();
     livox();
     livox_many();
