@@ -7,7 +7,7 @@ pub const FOR_RUST: [u8; 4] = [0xa1, 0xb2, 0xc3, 0xd4];
 pub const SAVEFILE: [u8; 4] = [0xd4, 0xc3, 0xb2, 0xa1];
 
 /// A capture of datagrams to a port, with little-endian lengths and times in microseconds. Each payload is
-/// made from its number.
+/// made from its number, and is one in both readings.
 pub fn capture(size: usize, port: u16, mut payload: impl FnMut(u32) -> Vec<u8>) -> Vec<u8> {
     let mut data = Vec::with_capacity(size);
     // Version 2.4, no zone, the longest record, Ethernet.
@@ -30,6 +30,8 @@ pub fn capture(size: usize, port: u16, mut payload: impl FnMut(u32) -> Vec<u8>) 
         let record = &mut data[record..];
         record[12..14].copy_from_slice(&[0x08, 0x00]);
         record[14] = 0x45;
+        // No fragment.
+        record[20..22].fill(0);
         record[23] = 17;
         record[36..38].copy_from_slice(&port.to_be_bytes());
         record[38..40].copy_from_slice(&(payload.len() as u16 + 8).to_be_bytes());
