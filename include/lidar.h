@@ -158,9 +158,13 @@ void lidar_os_128(size_t *columns_per_packet, size_t *pixels_per_column, uint16_
 
 /* ---- captures: the UDP payloads of a libpcap savefile
 
-   savefile   the reading: false is that of the original, threecrate's lidar.rs, which takes the byte
-              order of lengths from the magic the wrong way round; true is the format's, which also
-              passes over a record whose IPv4 header is below 20 bytes (an IHL below 5)
+   savefile   the reading. false is that of the original, threecrate's lidar.rs: it takes the byte
+              order of lengths from the magic the wrong way round, a payload runs to its record's end,
+              padding included, and a fragment is read like a whole datagram. true is the format's: a
+              payload has as many bytes as its UDP length says, less the header's 8, and a record is
+              passed over if its IPv4 header is below 20 bytes (an IHL below 5), if it holds a
+              fragment, or if its UDP length is below 9 or more than the record holds from the UDP
+              header on, as where the capture cut the datagram
    port       the destination port; 0 asks for every one
    start      takes where the payload's first byte stands in the data
    len        takes the payload's length
@@ -190,9 +194,10 @@ uint8_t lidar_payload_place(const uint8_t *data, size_t data_len,
                             uint32_t *seconds, uint32_t *fraction, uint8_t *unit);
 
 /* Finds the next payload, and gives back whether there was one. *at is where the walk stands: 0
-   before the first call, and then what the last call left in it, after the payload's record. 1 to 23
-   stand for 24, as 0 does, where the first record starts; from any other place it goes on as if a
-   record started there. Where there is no payload more, or the capture is refused, *at stays.
+   before the first call, and then what the last call left in it, the end of the payload's record,
+   after any padding. 1 to 23 stand for 24, as 0 does, where the first record starts; from any other
+   place it goes on as if a record started there. Where there is no payload more, or the capture is
+   refused, *at stays.
 
        size_t at = 0, start, len;
        uint32_t seconds, fraction;

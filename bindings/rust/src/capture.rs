@@ -9,9 +9,13 @@ use std::iter::FusedIterator;
 #[non_exhaustive]
 pub enum Reading {
     /// As threecrate's lidar.rs: first bytes `d4 c3 b2 a1` mean big-endian lengths and times, the other way
-    /// round from what capture tools write.
+    /// round from what capture tools write. A payload runs to its record's end, so that padding is a part of
+    /// it, and fragments are read like whole datagrams.
     Rust,
-    /// As the libpcap savefile format says. It takes what capture tools write.
+    /// As the libpcap savefile format says. It takes what capture tools write. A payload has as many
+    /// bytes as its UDP length says, less the header's 8, so that padding is no part of it. A record has no
+    /// payload if that length is below 9 or is more than the record holds from the UDP header on, as where the
+    /// capture cut the datagram, if it holds a fragment, or if its IPv4 header is below 20 bytes.
     Savefile,
 }
 
@@ -24,7 +28,7 @@ impl Reading {
 /// A payload, and when its record was captured.
 #[derive(Clone, Copy, Debug, PartialEq, Eq, Hash)]
 pub struct Payload<'a> {
-    /// That part of the capture, at least a byte.
+    /// That part of the capture, at least a byte. The [`Reading`] says where it ends.
     pub bytes: &'a [u8],
     /// As its record states it.
     pub time: Timestamp,
@@ -123,7 +127,7 @@ pub fn payloads_as(data: &[u8], reading: Reading, port: u16) -> Result<Payloads<
     })
 }
 
-/// The payloads of a capture, one after another.
+/// The payloads of a capture, one after another. After a payload it goes on at the end of its record.
 #[derive(Clone, Debug)]
 pub struct Payloads<'a> {
     data: &'a [u8],

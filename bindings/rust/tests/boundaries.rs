@@ -2,7 +2,7 @@
 
 mod files;
 
-use files::{capture, lvx, lvx2, opening, record};
+use files::{capture, capture_of, lvx, lvx2, opening, record, Datagram};
 use lidar::*;
 use std::time::Duration;
 
@@ -168,6 +168,132 @@ fn capture_headers_and_records() {
     }
 }
 
+/// What a datagram states, for messages.
+fn fields(datagram: &Datagram) -> String {
+    let Datagram {
+        udp_length,
+        fragment,
+        padding,
+        ..
+    } = datagram;
+    let padding = padding.len();
+    format!("UDP length {udp_length:?}, fragment field {fragment:#06x}, padding {padding}")
+}
+
+fn stating(udp_length: u16, datagram: Datagram) -> Datagram {
+    Datagram {
+        udp_length: Some(udp_length),
+        ..datagram
+    }
+}
+
+fn padded<'a>(padding: &'a [u8], datagram: Datagram<'a>) -> Datagram<'a> {
+    Datagram {
+        padding,
+        ..datagram
+    }
+}
+
+/// Holds how long the payload of a record is by each reading, 0 where it has none. A record of another port
+/// comes before it, and a good one after it, which is found where the record ends.
+#[track_caller]
+fn of_a_record(datagram: Datagram, by_rust: usize, by_savefile: usize) {
+    let (before, after) = (Datagram::new(2369, &[7]), Datagram::new(2368, b"next"));
+    for (reading, len) in [(Reading::Rust, by_rust), (Reading::Savefile, by_savefile)] {
+        let file = capture_of(reading, &[before, datagram, after]);
+        let place = |Payload { bytes, .. }: Payload| {
+            let start = bytes.as_ptr() as usize - file.as_ptr() as usize;
+            (start, bytes.len())
+        };
+        let mut want = vec![(24 + 16 + 43 + 16 + 42, len), (file.len() - 4, 4)];
+        want.retain(|(_, len)| *len > 0);
+        let payloads = payloads_as(&file, reading, 2368).unwrap();
+        let found: Vec<_> = payloads.map(place).collect();
+        assert_eq!(found, want, "{reading:?}, {}", fields(&datagram));
+        for rank in 0..=want.len() {
+            let ranked = payload_as(&file, reading, 2368, rank).unwrap().map(place);
+            assert_eq!(ranked, want.get(rank).copied(), "{reading:?}, rank {rank}");
+        }
+    }
+}
+
+/// By the Rust's reading padding is payload. By the other the UDP length decides.
+#[test]
+fn udp_lengths() {
+    // Three bytes, padded to a record of 60.
+    let of_60 = padded(&[0; 15], Datagram::new(2368, b"abc"));
+    of_a_record(of_60, 18, 3);
+    for (udp_length, len) in [
+        (0, 0),
+        (1, 0),
+        (7, 0),
+        (8, 0),
+        (9, 1),
+        (10, 2),
+        (25, 17),
+        // As much as there is from the UDP header on, and one more.
+        (26, 18),
+        (27, 0),
+        // Counted from the IPv4 header, and from the record's start.
+        (46, 0),
+        (60, 0),
+        // Good lengths by one byte alone.
+        (0x0109, 0),
+        (0x0900, 0),
+        (65_535, 0),
+    ] {
+        of_a_record(stating(udp_length, of_60), 18, len);
+    }
+    // Without padding, from no payload to two bytes.
+    for held in 0..=2 {
+        let whole = Datagram::new(2368, &b"ab"[..held]);
+        let exact = 8 + held as u16;
+        of_a_record(whole, held, held);
+        of_a_record(stating(exact - 1, whole), held, held.saturating_sub(1));
+        of_a_record(stating(exact + 1, whole), held, 0);
+    }
+    // Padding alone is no payload.
+    of_a_record(padded(&[0; 18], Datagram::new(2368, &[])), 18, 0);
+}
+
+/// The longest payload of a datagram has 65,527 bytes.
+#[test]
+fn the_longest_datagrams() {
+    let bytes = vec![7; 65_527];
+    let (longest, shorter) = (
+        Datagram::new(2368, &bytes),
+        Datagram::new(2368, &bytes[1..]),
+    );
+    of_a_record(stating(65_535, shorter), 65_526, 0);
+    of_a_record(stating(65_535, longest), 65_527, 65_527);
+    of_a_record(padded(&[0], stating(65_535, longest)), 65_528, 65_527);
+}
+
+/// By the Rust's reading a fragment is read like a whole datagram. By the other it is passed over.
+#[test]
+fn fragments() {
+    let whole = Datagram::new(2368, b"abc");
+    for (fragment, len) in [
+        (0, 3),
+        // Offsets 1, 255, 256 and 8,191, more-fragments, and both.
+        (0x0001, 0),
+        (0x00FF, 0),
+        (0x0100, 0),
+        (0x1FFF, 0),
+        (0x2000, 0),
+        (0x2001, 0),
+        // Don't-fragment, the reserved flag and both make no fragment, and beside other bits change nothing.
+        (0x4000, 3),
+        (0x8000, 3),
+        (0xC000, 3),
+        (0x6000, 0),
+        (0x8001, 0),
+        (0xFFFF, 0),
+    ] {
+        of_a_record(Datagram { fragment, ..whole }, 3, len);
+    }
+}
+
 /// The opening bytes of a capture, the unit that they state, and whether the magic's least significant byte
 /// comes first.
 const MAGICS: [([u8; 4], TimeUnit, bool); 4] = [
@@ -191,7 +317,7 @@ fn stamped(
     };
     let mut file = [&magic[..], &[0; 20]].concat();
     for (i, (time, port)) in records.iter().enumerate() {
-        file.extend(record(bytes, *time, *port, &[i as u8]));
+        file.extend(record(bytes, *time, Datagram::new(*port, &[i as u8])));
     }
     file
 }
@@ -460,6 +586,51 @@ fn ouster_packets() {
                     assert_eq!(read.len(), 16 * settings.pixels_per_column);
                 }
             }
+        }
+    }
+}
+
+/// A reader's packets are the payloads of its reading. By the savefile reading padding makes no packet long
+/// enough, and a capture of fragments or of wrong UDP lengths alone has no payload.
+#[test]
+fn packets_of_each_reading() {
+    let settings = OusterSettings::os1_64();
+    for (port, packet, points) in [
+        (2368, packet(1206, 0x22), 384),
+        (7502, vec![0xFF; 12608], 16 * 64),
+    ] {
+        let read = |reading, datagram| {
+            let file = capture_of(reading, &[datagram]);
+            let read = match port {
+                2368 => read_velodyne_as(&file, reading),
+                _ => read_ouster_as(&file, reading, &settings),
+            };
+            read.map(|points| points.len())
+        };
+        let no_payload = Err(Error::Refused(Refusal::NoPayload));
+        let whole = Datagram::new(port, &packet);
+        let fragment = |fragment| Datagram { fragment, ..whole };
+        let exact = 8 + packet.len() as u16;
+        let (short, last) = packet.split_at(packet.len() - 1);
+        for (datagram, by_savefile) in [
+            (whole, Ok(points)),
+            (padded(&[0; 4], whole), Ok(points)),
+            (padded(last, Datagram::new(port, short)), Ok(0)),
+            (stating(exact - 1, whole), Ok(0)),
+            (stating(9, whole), Ok(0)),
+            (stating(8, whole), no_payload),
+            (stating(0, whole), no_payload),
+            (stating(exact + 1, whole), no_payload),
+            (stating(65_535, whole), no_payload),
+            (fragment(0x0001), no_payload),
+            (fragment(0x1FFF), no_payload),
+            (fragment(0x2000), no_payload),
+            (fragment(0x4000), Ok(points)),
+            (fragment(0x8000), Ok(points)),
+        ] {
+            let fields = fields(&datagram);
+            assert_eq!(read(Reading::Rust, datagram), Ok(points), "{fields}");
+            assert_eq!(read(Reading::Savefile, datagram), by_savefile, "{fields}");
         }
     }
 }
