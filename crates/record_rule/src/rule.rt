@@ -168,7 +168,7 @@ fn to_udp_length(bytes: &[u8], udp: usize) -> Result<Part, PassedOver>
     })
 }
 
-// It leaves no byte of payload, or is more than the record holds from the UDP header on.
+// A UDP length that leaves no byte of payload, or is more than the record holds from the UDP header on.
 fn is_bad_length(stated: usize, held: usize) -> bool
     ensures { result ≡ (ltb stated 9 || ltb held stated) }
 {
