@@ -2,9 +2,9 @@
 
 #![tactic(auto)]
 
-ghost use Rattle.std.specs.Prelude.{◌≤◌, length, take, IfOk};
+ghost use Rattle.std.specs.Prelude.{◌≤◌, length, take, IfOk, IfErr};
 ghost use Rattle.std.specs.Io.KnownBytes.{Consumes, IsAtEnd};
-ghost use Rattle.input.specs.Ended.{Ended};
+ghost use Rattle.input.specs.Ended.{Ended, GoesOn};
 
 use std::io;
 use std::io::{ErrorKind, Read};
@@ -23,6 +23,7 @@ pub fn read_whole<'a, R: Read>(reader: &mut R, buf: &'a mut [u8]) -> Result<&'a 
     ensures within { IfOk result (λ bytes. length bytes.now ≤ length buf.old) }
     ensures bytes { IfOk result (λ bytes. Consumes (R.remaining reader.old) (R.remaining reader.new) bytes.now) }
     ensures end { IfOk result (λ _. IsAtEnd (R.remaining reader.new)) }
+    ensures too_long { IfErr result (λ why. GoesOn why (length buf.old) (R.remaining reader.old)) }
 {
     let len = read_full(reader, buf);
     let mut next = [0u8; 1];
