@@ -3,8 +3,9 @@
 
 #![tactic(auto)]
 
-ghost use Rattle.std.specs.Prelude.{◌≡◌, ◌≤◌, ◌∷◌, IfSome, is_ok, length};
+ghost use Rattle.std.specs.Prelude.{◌≡◌, ◌≤◌, ◌∷◌, true, IfSome, is_ok, length};
 ghost use Rattle.std.specs.Bool.{OnTrue};
+ghost use Rattle.std.specs.Fmt.Cut.{EndsInDots};
 ghost use Rattle.std.specs.Io.KnownBytes.{Appends, Consumes, IsAtEnd};
 
 use input::Unread;
@@ -50,11 +51,18 @@ impl<'a, R: Eprint, W: Write> Console<'a, R, W> {
         self.told(written)
     }
 
-    // Writes a value, and answers whether all of it was written.
+    // Writes a value, and answers whether all of it was written. In one write, so that no other writer comes between
+    // its parts: `write_fmt` makes one for each part of a number.
     pub fn print<D: Display + Drop>(&mut self, value: D) -> bool
         ensures { OnTrue result (IfSome (D.output value) (Appends (W.contents self.old.out) (W.contents self.new.out))) }
     {
-        let printed = self.out.write_fmt(value);
+        let text = InlineText::<64>::of(&value);
+        let bytes = text.as_str().as_bytes();
+        let printed = if may_be_cut(bytes) {
+            self.out.write_fmt(value)
+        } else {
+            self.out.write_all(bytes)
+        };
         self.told(printed)
     }
 
@@ -100,6 +108,13 @@ impl<D: Display> Display for Failure<D> {
         let words = words(text.as_str());
         write!(f, "{what}: {words}")
     }
+}
+
+// Whether `InlineText` may have cut this text, which it then ends in dots.
+fn may_be_cut(text: &[u8]) -> bool
+    ensures { EndsInDots 64 text.now → result ≡ true }
+{
+    text.ends_with(b"...")
 }
 
 fn words(text: &str) -> &str {
