@@ -1,4 +1,5 @@
--- The laws of a line's numbers.
+-- The laws of a line's numbers, and of the line as bytes.
+mod Bytes
 mod Decimal
 mod Lines
 pub mod Short

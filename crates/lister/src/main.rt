@@ -9,7 +9,6 @@ ghost use Rattle.livox_file.specs.Livox.{read_livox_bits};
 
 use answers::{Counts, Refusal};
 use console::Console;
-use head_lines::{HeadLine, RefusalLine};
 use std::io;
 use std::io::Write;
 
@@ -28,14 +27,17 @@ fn main(rt: HostRuntime) {
 fn list<R: Eprint, W: Write>(out: &mut Console<'_, R, W>, data: &[u8]) {
     let mut bits = [0u32; 12288];
     let mut kinds = [0u8; 4096];
+    let mut line = [0u8; 64];
     match read(data, &mut bits, &mut kinds) {
         Ok(counts) => {
-            if out.print(HeadLine(counts)) {
+            let n = head_lines::head_line(counts.points, counts.frames, &mut line);
+            if out.write(&line[..n]) {
                 list_points(out, &bits, &kinds[..counts.points]);
             }
         }
         Err(refusal) => {
-            out.print(RefusalLine(refusal));
+            let n = head_lines::refusal_line(refusal, &mut line);
+            out.write(&line[..n]);
         }
     }
 }

@@ -7,5 +7,5 @@ use Rattle.lister.proofs.list.Goals as goal
 pub slice_bounds-kinds-end : goal.slice_bounds-kinds-end
 slice_bounds-kinds-end g c = omega (arith, points_fit _ _ _ _ c.in-Ok.counts c.in-Ok.ensures, c.read.auto.kinds)
 
-pub slice_bounds-list_points-end-then-print : goal.slice_bounds-list_points-end-then-print
-slice_bounds-list_points-end-then-print g c = omega (arith, points_fit _ _ _ _ c.in-Ok.counts c.in-Ok.ensures, c.read.auto.kinds, length-take-le c.in-Ok.counts.points c.read.new.kinds)
+pub slice_bounds-list_points-end-then-write : goal.slice_bounds-list_points-end-then-write
+slice_bounds-list_points-end-then-write g c = omega (arith, points_fit _ _ _ _ c.in-Ok.counts c.in-Ok.ensures, c.read.auto.kinds, length-take-le c.in-Ok.counts.points c.read.new.kinds)
