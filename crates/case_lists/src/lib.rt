@@ -47,11 +47,12 @@ fn run_case<C: Calls, R: Eprint, W: Write>(
     out: &mut Console<'_, R, W>,
     case: &Case<'_>,
 ) -> bool {
+    // First, since a function's locals are zeros as it begins: after a call they would be cleared once more.
+    let mut space = [0u8; 32768];
     if !out.write(case.name) {
         return false;
     }
     out.write(b":");
-    let mut space = [0u8; 32768];
     calls.tell(out, case, case.data(&mut space));
     out.write(b"\n")
 }

@@ -70,7 +70,11 @@ fn tell_numbers<R: Eprint, W: Write, T: Number>(out: &mut Console<'_, R, W>, num
     for point in numbers.chunks(3) {
         out.write(b" |");
         for number in point {
-            out.print_next(Told(number.pattern()));
+            match number.pattern() {
+                Some(bits) => out.print_next(Told(Some(bits))),
+                // In one write, so that a failure is told once.
+                None => out.write(b" nan"),
+            };
         }
     }
 }
