@@ -1,7 +1,6 @@
 -- The bytes that code puts together are those of the line: each text goes after those before it, and the digits of a
 -- number are the fewest that hold it.
 use Rattle.std.proofs.Common.{ℕ, zero, suc, ◌+◌, ◌-◌, ◌*◌, ◌/◌, ◌%◌, ◌^◌, ◌≤◌, ◌<◌, ◌≡◌, refl, sym, ap, ◌∙◌, List, [], ◌∷◌, ◌++◌, length, take, drop, length-append, length-take-le, append_assoc, append-nil, arith, pow-suc, eq-eqb, ne_eqb, lt-ltb, le-ltb}
-use Rattle.io.specs.Counts.{IsPrefixLen}
 use Rattle.io.specs.Digits.{last_digits, IsDigitCount}
 use borrow.Rule.Slice.PartMut.{put_mid}
 use Rattle.answers.specs.declared.Refusal.{Refusal}
@@ -58,17 +57,14 @@ module _ (old : List ℕ) {line' : List ℕ} {next : ℕ} where
   pub then : {line : List ℕ} {at : ℕ} (text new : List ℕ) → Begun text old line at → Appended new line at line' next → Begun (text ++ new) old line' next
   then {line} {at} text new (e, f) (g, h) = (g ∙ rw (e, length-append), h ∙ rw f (over_more text new old at (sym e)))
 
--- the next index counts bytes of the line
-pub counted : (text old : List ℕ) {line : List ℕ} {next : ℕ} → Begun text old line next → IsPrefixLen next line × Begun text old line next
-unfolding over
-counted text old {line} {next} (e, f) =
-    let within : next ≤ length line = rw (f, length-append) (omega arith) in
-    ((within, sym (length-take-le next line within)), (e, f))
-
 -- the lines, by what code puts one after another
 pub head_bytes : (points frames : ℕ) → points_text ++ decimal points ++ (frames_text ++ decimal frames) ++ line_end ∷ [] ≡ head_line points frames
 unfolding head_line
 head_bytes points frames = ap (λ (t : List ℕ). t ++ line_end ∷ []) (sym (append_assoc (points_text ++ decimal points) frames_text (decimal frames)))
+
+pub whole_head_line : (points frames : ℕ) (old : List ℕ) {at next end : ℕ} {line line' line'' : List ℕ} → Appended (points_text ++ decimal points) old 0 line at
+    → Appended (frames_text ++ decimal frames) line at line' next → Appended (line_end ∷ []) line' next line'' end → Begun (head_line points frames) old line'' end
+whole_head_line points frames old one two last = rw (← head_bytes points frames) (then old _ _ (then old _ _ (first old _ one) two) last)
 
 module _ (refusal : Refusal) where
   abbrev pub refused : List ℕ
@@ -81,3 +77,15 @@ module _ (refusal : Refusal) where
   pub other_bytes : (refusal_number refusal ≡ 10 → ⊥) → refused ++ line_end ∷ [] ≡ refusal_line refusal
   unfolding refusal_line
   other_bytes e = rw (ne_eqb (refusal_number refusal) 10 e) (ap (λ (t : List ℕ). t ++ line_end ∷ []) (sym (append-nil refused)))
+
+-- The line of a refusal, put together from the text up to its number on: with the points needed, or at once to its end.
+module _ (refusal : Refusal) (old : List ℕ) {number at : ℕ} {line : List ℕ} (is : number ≡ refusal_number refusal) (begun : Appended (refused_text ++ decimal number) old 0 line at) where
+  up_to_number : Begun (refused refusal) old line at
+  up_to_number = rw is at (first old _ begun)
+
+  pub no_room_line : {needed next end : ℕ} {line' line'' : List ℕ} → number ≡ 10 → needed ≡ refusal_points refusal → Appended (space ∷ decimal needed) line at line' next → Appended (line_end ∷ []) line' next line'' end
+      → Begun (refusal_line refusal) old line'' end
+  no_room_line ten n more last = rw (← no_room_bytes refusal (sym is ∙ ten)) (then old _ _ (then old _ _ up_to_number (rw n at more)) last)
+
+  pub other_line : {end : ℕ} {line' : List ℕ} → (number ≡ 10 → ⊥) → Appended (line_end ∷ []) line at line' end → Begun (refusal_line refusal) old line' end
+  other_line not_ten last = rw (← other_bytes refusal (λ e. not_ten (is ∙ e))) (then old _ _ up_to_number last)
