@@ -52,7 +52,7 @@ impl<'a, R: Eprint, W: Write> Console<'a, R, W> {
     }
 
     // Writes a value, and answers whether all of it was written. In one write, so that no other writer comes between
-    // its parts: `write_fmt` makes one for each part of a number.
+    // its parts: `write_fmt` makes one for each part of a number. It writes a text that may have been cut.
     pub fn print<D: Display + Drop>(&mut self, value: D) -> bool
         ensures { OnTrue result (IfSome (D.output value) (Appends (W.contents self.old.out) (W.contents self.new.out))) }
     {

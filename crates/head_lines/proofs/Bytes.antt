@@ -83,9 +83,9 @@ module _ (refusal : Refusal) (old : List ℕ) {number at : ℕ} {line : List ℕ
   up_to_number : Begun (refused refusal) old line at
   up_to_number = rw is at (first old _ begun)
 
-  pub no_room_line : {needed next end : ℕ} {line' line'' : List ℕ} → number ≡ 10 → needed ≡ refusal_points refusal → Appended (space ∷ decimal needed) line at line' next → Appended (line_end ∷ []) line' next line'' end
+  pub no_room_line : {needed next end : ℕ} {line' line'' : List ℕ} → refusal_number refusal ≡ 10 → needed ≡ refusal_points refusal → Appended (space ∷ decimal needed) line at line' next → Appended (line_end ∷ []) line' next line'' end
       → Begun (refusal_line refusal) old line'' end
-  no_room_line ten n more last = rw (← no_room_bytes refusal (sym is ∙ ten)) (then old _ _ (then old _ _ up_to_number (rw n at more)) last)
+  no_room_line ten n more last = rw (← no_room_bytes refusal ten) (then old _ _ (then old _ _ up_to_number (rw n at more)) last)
 
-  pub other_line : {end : ℕ} {line' : List ℕ} → (number ≡ 10 → ⊥) → Appended (line_end ∷ []) line at line' end → Begun (refusal_line refusal) old line' end
-  other_line not_ten last = rw (← other_bytes refusal (λ e. not_ten (is ∙ e))) (then old _ _ up_to_number last)
+  pub other_line : {end : ℕ} {line' : List ℕ} → (refusal_number refusal ≡ 10 → ⊥) → Appended (line_end ∷ []) line at line' end → Begun (refusal_line refusal) old line' end
+  other_line not_ten last = rw (← other_bytes refusal not_ten) (then old _ _ up_to_number last)

@@ -12,6 +12,9 @@ use answers::{Counts, Refusal};
 use std::fmt;
 use std::fmt::Display;
 
+// The refusal that tells the points needed.
+const NO_ROOM: u8 = 10;
+
 // The first line of what was read. It goes over the front of line, and the answer is its length:
 // 56 bytes at most, since a usize has at most 20 digits. The lister writes these bytes, since a
 // `Display` promises its text only where it answers Ok.
@@ -32,7 +35,7 @@ pub fn refusal_line(refusal: Refusal, line: &mut [u8; 64]) -> usize
     ensures line_written { line.new ≡ over (refusal_line refusal) line.old }
 {
     let number = refusal.number();
-    let at = append_number(b"refused ", number as usize, line, 0);
+    let at = append_number(b"refused ", usize::from(number), line, 0);
     if number == NO_ROOM {
         let at = append_number(b" ", refusal.points_needed(), line, at);
         append(b"\n", line, at)
@@ -40,9 +43,6 @@ pub fn refusal_line(refusal: Refusal, line: &mut [u8; 64]) -> usize
         append(b"\n", line, at)
     }
 }
-
-// The refusal that tells the points needed.
-const NO_ROOM: u8 = 10;
 
 // Puts text into line at an index, and answers the index after the text.
 fn append(text: &[u8], line: &mut [u8], at: usize) -> usize

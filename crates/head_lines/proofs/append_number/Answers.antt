@@ -1,8 +1,7 @@
 -- The digits are the fewest that hold the number, so they are those of the definition, and they go after the text.
 use Rattle.std.proofs.Common.{◌≡◌, ◌∙◌, take, arith}
 use Rattle.head_lines.specs.HeadLines.{decimal}
-use Rattle.head_lines.proofs.Bytes.{fewest_is}
-use Rattle.head_lines.proofs.Bytes.{both}
+use Rattle.head_lines.proofs.Bytes.{fewest_is, both}
 use Rattle.head_lines.proofs.append_number.Goals as goal
 
 pub returns-clause-appended : goal.returns-clause-appended
